@@ -1,0 +1,101 @@
+-- The table as a list: its length, its columns and entries, and how one part more is laid into a room.
+use Prim.Native.Nat.{ℕ, zero, suc, _+_, _-_, _*_, _≤_, _<_}
+use lib.Dec.{ltb}
+use lib.ListN.{length, getD, drop, take, length-append, length-drop, List·getD-append}
+use lib.Pow.{pow-mono}
+use lib.Seq.{getD-append-add, drop-drop, drop-at, take-at}
+use mathlib.Core.Bool.{cond}
+use mathlib.Core.List.{List, [], _++_, append-assoc, append-nil}
+use mathlib.Core.Path.{_≡_, sym, ap, _∙_}
+use native.Mathlib.Nat.{add-zero, le-of-eq, le-trans, zero-add, add-suc}
+use native.Mathlib.Omega.{arith}
+use Rattle.meaning.specs.Numbers.{maxTo}
+use Rattle.meaning.specs.Block.{Matrix}
+use Rattle.meaning.specs.Active.{activeCount, mostActive, used, entries}
+use Rattle.meaning.specs.Closing.{activeReads}
+use Rattle.meaning.specs.Charge.{Sums}
+use Rattle.meaning.specs.Table.{entry, column, columnsTo, table}
+use Rattle.meaning.specs.Refusals.{workSize}
+use Rattle.meaning.specs.Call.{over}
+use Rattle.meaning.specs.Rule.{columnOf}
+use Rattle.meaning.proofs.Totals.{max-above}
+use Rattle.meaning.proofs.Lists.{length-run, getD-run}
+use Rattle.meaning.proofs.Closing.{Placed, length-active}
+
+-- a column has room for its entries
+pub used-room : (M : Matrix) → Placed M → (j : ℕ) → j < M .columns → used (length (activeReads M j)) ≤ entries M
+unfolding entries mostActive
+used-room M p j l =
+    pow-mono (le-trans (le-of-eq (ap (λ (n : ℕ). n - 1) (length-active M p j))) (let h : activeCount M j ≤ maxTo (M .columns) (activeCount M) = max-above (M .columns) (activeCount M) j l in omega arith))
+
+module _ (C : Sums → ℕ) (M : Matrix) where
+  pub length-column : (j : ℕ) → length (column C M j) ≡ entries M
+  unfolding column
+  length-column j = length-run 0 (entries M) _
+
+  pub column-at : (j k : ℕ) → k < entries M → getD (column C M j) k 0 ≡ cond (ltb k (used (length (activeReads M j)))) (entry C M j k) 0
+  unfolding column
+  column-at j k l = getD-run 0 (entries M) (λ i. cond (ltb i (used (length (activeReads M j)))) (entry C M j i) 0) k 0 l ∙ ap (λ (i : ℕ). cond (ltb i (used (length (activeReads M j)))) (entry C M j i) 0) (zero-add k)
+
+  pub length-columns : (j : ℕ) → length (columnsTo C M j) ≡ j * entries M
+  unfolding columnsTo
+  length-columns zero = omega arith
+  length-columns (suc j) = length-append (columnsTo C M j) (column C M j) ∙ omega (arith, length-columns j, length-column j)
+
+  -- columns laid down later do not move those before
+  pub columns-split : (j i : ℕ) → (rest : List ℕ) × (columnsTo C M (j + i) ≡ columnsTo C M j ++ rest)
+  unfolding columnsTo
+  columns-split j zero = ([], ap (columnsTo C M) (add-zero j) ∙ sym (append-nil (columnsTo C M j)))
+  columns-split j (suc i) =
+      let w = columns-split j i in
+      (w .0 ++ column C M (j + i), ap (columnsTo C M) (add-suc j i) ∙ ap (λ (l : List ℕ). l ++ column C M (j + i)) (w .1) ∙ append-assoc (columnsTo C M j) (w .0) (column C M (j + i)))
+
+  -- entry k of column j stands at j × T + k
+  pub columns-at : (j i k : ℕ) → k < entries M → getD (columnsTo C M (suc j + i)) (j * entries M + k) 0 ≡ getD (column C M j) k 0
+  unfolding columnsTo
+  columns-at j i k l =
+      let w = columns-split (suc j) i in
+      ap (λ (x : List ℕ). getD x (j * entries M + k) 0) (w .1 ∙ append-assoc (columnsTo C M j) (column C M j) (w .0))
+      ∙ ap (λ (n : ℕ). getD (columnsTo C M j ++ (column C M j ++ w .0)) (n + k) 0) (sym (length-columns j))
+      ∙ getD-append-add (columnsTo C M j) (column C M j ++ w .0) k 0
+      ∙ List·getD-append (column C M j) (w .0) 0 k (le-trans l (le-of-eq (sym (length-column j))))
+
+  pub table-at : (j k : ℕ) → j < M .columns → k < entries M → getD (table C M) (j * entries M + k) 0 ≡ getD (column C M j) k 0
+  unfolding table
+  table-at j k h l =
+      ap (λ (n : ℕ). getD (columnsTo C M n) (j * entries M + k) 0) (rest (M .columns) j h) ∙ columns-at j (M .columns - suc j) k l
+    where
+      rest : (m j : ℕ) → j < m → m ≡ suc j + (m - suc j)
+      rest m j h = omega arith
+
+  pub length-table : length (table C M) ≡ workSize M
+  unfolding table workSize
+  length-table = length-columns (M .columns)
+
+-- column j of the table, wherever it stands in front of a room
+module _ (C : Sums → ℕ) (M : Matrix) where
+  pub columns-part : (j i : ℕ) (rest : List ℕ) → columnOf M (columnsTo C M (suc j + i) ++ rest) j ≡ column C M j
+  unfolding columnsTo
+  columns-part j i rest =
+      let w = columns-split C M (suc j) i in
+      ap (λ (x : List ℕ). columnOf M (x ++ rest) j) (w .1)
+      ∙ ap (λ (x : List ℕ). columnOf M x j) (append-assoc (columnsTo C M j ++ column C M j) (w .0) rest ∙ append-assoc (columnsTo C M j) (column C M j) (w .0 ++ rest))
+      ∙ ap (take (entries M)) (drop-at (columnsTo C M j) (column C M j ++ (w .0 ++ rest)) (j * entries M) (length-columns C M j))
+      ∙ take-at (column C M j) (w .0 ++ rest) (entries M) (length-column C M j)
+
+  pub table-part : (j : ℕ) → j < M .columns → (rest : List ℕ) → columnOf M (table C M ++ rest) j ≡ column C M j
+  unfolding table
+  table-part j h rest =
+      ap (λ (n : ℕ). columnOf M (columnsTo C M n ++ rest) j) (further (M .columns) j h) ∙ columns-part j (M .columns - suc j) rest
+    where
+      further : (m j : ℕ) → j < m → m ≡ suc j + (m - suc j)
+      further m j h = omega arith
+
+-- one part more: what stands before it stays, what stands after it stays
+pub over-more : (xs ys w : List ℕ) → over (xs ++ ys) w ≡ xs ++ (ys ++ drop (length ys) (drop (length xs) w))
+over-more xs ys w =
+    append-assoc xs ys (drop (length (xs ++ ys)) w)
+    ∙ ap (λ (l : List ℕ). xs ++ (ys ++ l)) (ap (λ (n : ℕ). drop n w) (length-append xs ys) ∙ sym (drop-drop (length ys) (length xs) w))
+
+pub length-over : (xs w : List ℕ) → length xs ≤ length w → length (over xs w) ≡ length w
+length-over xs w h = length-append xs (drop (length xs) w) ∙ omega (arith, length-drop (length xs) w)

@@ -1,0 +1,54 @@
+-- A call: its two numbers, and what both rooms hold afterwards.
+use Prim.Native.Nat.{ℕ}
+use mathlib.Core.Path.{_≡_}
+use mathlib.Core.Bool.{cond}
+use mathlib.Core.List.{List, _++_}
+use lib.ListN.{length, drop}
+use lib.Dec.{eqb}
+use Rattle.meaning.specs.Block.{matrixOf}
+use Rattle.meaning.specs.Charge.{leastCost}
+use Rattle.meaning.specs.Letters.{Mode, general}
+use Rattle.meaning.specs.Table.{table}
+use Rattle.meaning.specs.Answer.{answer}
+use Rattle.meaning.specs.Refusals.{Numbers, refusal}
+
+pub record Result : Type 0 where
+  pub number : ℕ
+  pub second : ℕ
+  pub work : List ℕ
+  pub out : List ℕ
+
+-- new in front, behind it what was there
+abbrev pub over : List ℕ → List ℕ → List ℕ
+over new old = new ++ drop (length new) old
+
+-- acceptance: the cost, the table and the answer block; what lies beyond them is kept
+unfoldable pub accepts : Mode → List ℕ → List ℕ → List ℕ → Result
+accepts mode b work out =
+    record {
+      number = 0;
+      second = leastCost (mode .charged) (matrixOf b);
+      work = over (table (mode .charged) (matrixOf b)) work;
+      out = over (answer mode (matrixOf b)) out;
+    }
+
+-- refusal: both rooms as they were
+unfoldable pub refuses : Numbers → List ℕ → List ℕ → Result
+refuses given work out = record { number = given .number; second = given .second; work = work; out = out }
+
+-- in any mode, for blocks up to the newest version
+unfoldable pub callWith : Mode → ℕ → List ℕ → List ℕ → List ℕ → Result
+callWith mode newest b work out =
+    let given = refusal newest b (length work) (length out) in
+    cond (eqb (given .number) 0) (accepts mode b work out) (refuses given work out)
+
+-- what `phase` does with a block, a work room and an output
+unfoldable pub call : List ℕ → List ℕ → List ℕ → Result
+call = callWith general 1
+
+-- a contract with it, by parts: each is an equation
+pub record Answers (b work out : List ℕ) (r : Result) : Type 0 where
+  pub number-is : r .number ≡ call b work out .number
+  pub second-is : r .second ≡ call b work out .second
+  pub work-is : r .work ≡ call b work out .work
+  pub out-is : r .out ≡ call b work out .out

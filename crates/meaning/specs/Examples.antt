@@ -1,0 +1,296 @@
+-- Worked examples, proved by computing.
+-- P1 to P9, as one list under one statement: each block, called with room for the table and the answer and one more of each, gives number 0
+-- and the cost, and leaves the table and the answer block in front of what the rooms held. Then one refusal of each number.
+use Prim.Native.Nat.{ℕ, suc}
+use mathlib.Core.Path.{_≡_, refl}
+use mathlib.Core.List.{List, [], _∷_, _++_}
+use lib.ListN.{length, replicate}
+use Rattle.meaning.specs.Answer.{answerBytes}
+use Rattle.meaning.specs.Call.{Result, call}
+use Rattle.meaning.specs.Opened.{opened}
+
+pub record Example : Type 0 where
+  pub block : List ℕ
+  pub cost : ℕ
+  pub flips : ℕ
+  pub sides : List ℕ
+  pub hap1 : List ℕ
+  pub hap2 : List ℕ
+  pub entries : List ℕ
+
+abbrev pub answer-of : Example → List ℕ
+answer-of s = answerBytes (s .cost) (s .flips) (s .sides) (s .hap1) (s .hap2)
+
+abbrev pub Holds : Example → Type 0
+Holds s =
+    call (s .block) (replicate (suc (length (s .entries))) 7) (replicate (suc (length (answer-of s))) 7)
+    ≡ record { number = 0; second = s .cost; work = s .entries ++ (7 ∷ []); out = answer-of s ++ (7 ∷ []) }
+
+abbrev pub All : {A : Type 0} → (A → Type 0) → List A → Type 0
+All P [] = Unit {0}
+All P (s ∷ ss) = P s × All P ss
+
+-- 0:5 . / 1:3 0:2 / 1:6 1:1 / . 0:2
+abbrev pub p1 : Example
+p1 =
+    record {
+      block = 1 ∷ 0 ∷ 0 ∷ 0 ∷ 32 ∷ 0 ∷ 2 ∷ 0 ∷ 4 ∷ 0 ∷ 4 ∷ 0 ∷ 0 ∷ 0 ∷ 5 ∷ 0 ∷ 6 ∷ 0 ∷ 0 ∷ 1 ∷ 3 ∷ 0 ∷ 2 ∷ 0 ∷ 6 ∷ 0 ∷ 0 ∷ 1 ∷ 6 ∷ 1 ∷ 1 ∷ 0 ∷ 4 ∷ 0 ∷ 1 ∷ 0 ∷ 2 ∷ [];
+      cost = 1;
+      flips = 1;
+      sides = 1 ∷ 0 ∷ 0 ∷ 0 ∷ [];
+      hap1 = 1 ∷ 0 ∷ [];
+      hap2 = 0 ∷ 1 ∷ [];
+      entries = 5 ∷ 3 ∷ 0 ∷ 5 ∷ 1 ∷ 3 ∷ 1 ∷ 4 ∷ [];
+    }
+
+-- 0:4 . 1:3 / 0:5 0:5 0:5 / 1:5 1:5 1:5
+abbrev pub p2 : Example
+p2 =
+    record {
+      block = 1 ∷ 0 ∷ 0 ∷ 0 ∷ 34 ∷ 0 ∷ 3 ∷ 0 ∷ 3 ∷ 0 ∷ 8 ∷ 0 ∷ 0 ∷ 0 ∷ 4 ∷ 2 ∷ 0 ∷ 1 ∷ 3 ∷ 0 ∷ 8 ∷ 0 ∷ 0 ∷ 0 ∷ 5 ∷ 0 ∷ 5 ∷ 0 ∷ 5 ∷ 0 ∷ 8 ∷ 0 ∷ 0 ∷ 1 ∷ 5 ∷ 1 ∷ 5 ∷ 1 ∷ 5 ∷ [];
+      cost = 3;
+      flips = 1;
+      sides = 0 ∷ 0 ∷ 1 ∷ [];
+      hap1 = 0 ∷ 0 ∷ 0 ∷ [];
+      hap2 = 1 ∷ 1 ∷ 1 ∷ [];
+      entries = 5 ∷ 4 ∷ 0 ∷ 5 ∷ 10 ∷ 4 ∷ 0 ∷ 10 ∷ 15 ∷ 4 ∷ 3 ∷ 15 ∷ [];
+    }
+
+-- m = 1, n = 0
+abbrev pub p3 : Example
+p3 =
+    record {
+      block = 1 ∷ 0 ∷ 0 ∷ 0 ∷ 4 ∷ 0 ∷ 1 ∷ 0 ∷ 0 ∷ [];
+      cost = 0;
+      flips = 0;
+      sides = [];
+      hap1 = 1 ∷ [];
+      hap2 = 1 ∷ [];
+      entries = 0 ∷ [];
+    }
+
+-- 0:7
+abbrev pub p4 : Example
+p4 =
+    record {
+      block = 1 ∷ 0 ∷ 0 ∷ 0 ∷ 10 ∷ 0 ∷ 1 ∷ 0 ∷ 1 ∷ 0 ∷ 4 ∷ 0 ∷ 0 ∷ 0 ∷ 7 ∷ [];
+      cost = 0;
+      flips = 0;
+      sides = 0 ∷ [];
+      hap1 = 0 ∷ [];
+      hap2 = 1 ∷ [];
+      entries = 0 ∷ [];
+    }
+
+-- 0:5 / 1:5
+abbrev pub p5 : Example
+p5 =
+    record {
+      block = 1 ∷ 0 ∷ 0 ∷ 0 ∷ 16 ∷ 0 ∷ 1 ∷ 0 ∷ 2 ∷ 0 ∷ 4 ∷ 0 ∷ 0 ∷ 0 ∷ 5 ∷ 0 ∷ 4 ∷ 0 ∷ 0 ∷ 1 ∷ 5 ∷ [];
+      cost = 0;
+      flips = 0;
+      sides = 0 ∷ 1 ∷ [];
+      hap1 = 0 ∷ [];
+      hap2 = 1 ∷ [];
+      entries = 5 ∷ 0 ∷ [];
+    }
+
+-- 0:3 / 0:3
+abbrev pub p6 : Example
+p6 =
+    record {
+      block = 1 ∷ 0 ∷ 0 ∷ 0 ∷ 16 ∷ 0 ∷ 1 ∷ 0 ∷ 2 ∷ 0 ∷ 4 ∷ 0 ∷ 0 ∷ 0 ∷ 3 ∷ 0 ∷ 4 ∷ 0 ∷ 0 ∷ 0 ∷ 3 ∷ [];
+      cost = 0;
+      flips = 0;
+      sides = 0 ∷ 0 ∷ [];
+      hap1 = 0 ∷ [];
+      hap2 = 1 ∷ [];
+      entries = 0 ∷ 0 ∷ [];
+    }
+
+-- 0:0 / 1:0
+abbrev pub p7 : Example
+p7 =
+    record {
+      block = 1 ∷ 0 ∷ 0 ∷ 0 ∷ 16 ∷ 0 ∷ 1 ∷ 0 ∷ 2 ∷ 0 ∷ 4 ∷ 0 ∷ 0 ∷ 0 ∷ 0 ∷ 0 ∷ 4 ∷ 0 ∷ 0 ∷ 1 ∷ 0 ∷ [];
+      cost = 0;
+      flips = 1;
+      sides = 0 ∷ 0 ∷ [];
+      hap1 = 1 ∷ [];
+      hap2 = 1 ∷ [];
+      entries = 0 ∷ 0 ∷ [];
+    }
+
+-- 1:4 . with m = 2
+abbrev pub p8 : Example
+p8 =
+    record {
+      block = 1 ∷ 0 ∷ 0 ∷ 0 ∷ 10 ∷ 0 ∷ 2 ∷ 0 ∷ 1 ∷ 0 ∷ 4 ∷ 0 ∷ 0 ∷ 1 ∷ 4 ∷ [];
+      cost = 0;
+      flips = 0;
+      sides = 0 ∷ [];
+      hap1 = 1 ∷ 1 ∷ [];
+      hap2 = 1 ∷ 1 ∷ [];
+      entries = 0 ∷ 0 ∷ [];
+    }
+
+-- c = 0 / 0:7
+abbrev pub p9 : Example
+p9 =
+    record {
+      block = 1 ∷ 0 ∷ 0 ∷ 0 ∷ 14 ∷ 0 ∷ 1 ∷ 0 ∷ 2 ∷ 0 ∷ 2 ∷ 0 ∷ 0 ∷ 0 ∷ 4 ∷ 0 ∷ 0 ∷ 0 ∷ 7 ∷ [];
+      cost = 0;
+      flips = 0;
+      sides = 0 ∷ 0 ∷ [];
+      hap1 = 0 ∷ [];
+      hap2 = 1 ∷ [];
+      entries = 0 ∷ [];
+    }
+
+abbrev pub examples : List Example
+examples = p1 ∷ p2 ∷ p3 ∷ p4 ∷ p5 ∷ p6 ∷ p7 ∷ p8 ∷ p9 ∷ []
+
+pub examples-hold : All Holds examples
+unfolding opened
+examples-hold = (refl, (refl, (refl, (refl, (refl, (refl, (refl, (refl, (refl, tt)))))))))
+
+-- A refusal of each number, with the rooms at which it is given: both stay as they were
+pub record Refused : Type 0 where
+  pub block : List ℕ
+  pub work : ℕ
+  pub out : ℕ
+  pub number : ℕ
+  pub second : ℕ
+
+abbrev pub Refuses : Refused → Type 0
+Refuses s =
+    call (s .block) (replicate (s .work) 7) (replicate (s .out) 7)
+    ≡ record { number = s .number; second = s .second; work = replicate (s .work) 7; out = replicate (s .out) 7 }
+
+-- eight bytes
+abbrev pub r1 : Refused
+r1 =
+    record {
+      block = 1 ∷ 0 ∷ 0 ∷ 0 ∷ 32 ∷ 0 ∷ 2 ∷ 0 ∷ [];
+      work = 99;
+      out = 99;
+      number = 1;
+      second = 0;
+    }
+
+-- version 2
+abbrev pub r2 : Refused
+r2 =
+    record {
+      block = 2 ∷ 0 ∷ 0 ∷ 0 ∷ 4 ∷ 0 ∷ 1 ∷ 0 ∷ 0 ∷ [];
+      work = 99;
+      out = 99;
+      number = 2;
+      second = 0;
+    }
+
+-- a length field that is one too large
+abbrev pub r3 : Refused
+r3 =
+    record {
+      block = 1 ∷ 0 ∷ 0 ∷ 0 ∷ 5 ∷ 0 ∷ 1 ∷ 0 ∷ 0 ∷ [];
+      work = 99;
+      out = 99;
+      number = 3;
+      second = 0;
+    }
+
+-- m = 0
+abbrev pub r4 : Refused
+r4 =
+    record {
+      block = 1 ∷ 0 ∷ 0 ∷ 0 ∷ 4 ∷ 0 ∷ 0 ∷ 0 ∷ 0 ∷ [];
+      work = 99;
+      out = 99;
+      number = 4;
+      second = 0;
+    }
+
+-- no byte is left for read 1
+abbrev pub r5 : Refused
+r5 =
+    record {
+      block = 1 ∷ 0 ∷ 0 ∷ 0 ∷ 10 ∷ 0 ∷ 1 ∷ 0 ∷ 2 ∷ 0 ∷ 4 ∷ 0 ∷ 0 ∷ 0 ∷ 5 ∷ [];
+      work = 99;
+      out = 99;
+      number = 5;
+      second = 1;
+    }
+
+-- read 0 ends one past the last column, and has a letter 3
+abbrev pub r6 : Refused
+r6 =
+    record {
+      block = 1 ∷ 0 ∷ 0 ∷ 0 ∷ 12 ∷ 0 ∷ 1 ∷ 0 ∷ 1 ∷ 0 ∷ 6 ∷ 0 ∷ 0 ∷ 3 ∷ 5 ∷ 0 ∷ 1 ∷ [];
+      work = 99;
+      out = 99;
+      number = 6;
+      second = 0;
+    }
+
+-- a hole with weight in read 1
+abbrev pub r7 : Refused
+r7 =
+    record {
+      block = 1 ∷ 0 ∷ 0 ∷ 0 ∷ 20 ∷ 0 ∷ 3 ∷ 0 ∷ 2 ∷ 0 ∷ 4 ∷ 0 ∷ 0 ∷ 0 ∷ 5 ∷ 0 ∷ 8 ∷ 0 ∷ 0 ∷ 0 ∷ 1 ∷ 2 ∷ 1 ∷ 0 ∷ 1 ∷ [];
+      work = 99;
+      out = 99;
+      number = 7;
+      second = 1;
+    }
+
+-- a byte remains
+abbrev pub r8 : Refused
+r8 =
+    record {
+      block = 1 ∷ 0 ∷ 0 ∷ 0 ∷ 11 ∷ 0 ∷ 1 ∷ 0 ∷ 1 ∷ 0 ∷ 4 ∷ 0 ∷ 0 ∷ 0 ∷ 5 ∷ 0 ∷ [];
+      work = 99;
+      out = 99;
+      number = 8;
+      second = 0;
+    }
+
+-- 13 reads are active at column 1, the thirteenth only by its gap
+abbrev pub r9 : Refused
+r9 =
+    record {
+      block = 1 ∷ 0 ∷ 0 ∷ 0 ∷ 86 ∷ 0 ∷ 3 ∷ 0 ∷ 13 ∷ 0 ∷ 4 ∷ 0 ∷ 1 ∷ 0 ∷ 1 ∷ 0 ∷ 4 ∷ 0 ∷ 1 ∷ 0 ∷ 1 ∷ 0 ∷ 4 ∷ 0 ∷ 1 ∷ 0 ∷ 1 ∷ 0 ∷ 4 ∷ 0 ∷ 1 ∷ 0 ∷ 1 ∷ 0 ∷ 4 ∷ 0 ∷ 1 ∷ 0 ∷ 1 ∷ 0 ∷ 4 ∷ 0 ∷ 1 ∷ 0 ∷ 1 ∷ 0 ∷ 4 ∷ 0 ∷ 1 ∷ 0 ∷ 1 ∷ 0 ∷ 4 ∷ 0 ∷ 1 ∷ 0 ∷ 1 ∷ 0 ∷ 4 ∷ 0 ∷ 1 ∷ 0 ∷ 1 ∷ 0 ∷ 4 ∷ 0 ∷ 1 ∷ 0 ∷ 1 ∷ 0 ∷ 4 ∷ 0 ∷ 1 ∷ 0 ∷ 1 ∷ 0 ∷ 4 ∷ 0 ∷ 1 ∷ 0 ∷ 1 ∷ 0 ∷ 8 ∷ 0 ∷ 0 ∷ 0 ∷ 1 ∷ 2 ∷ 0 ∷ 0 ∷ 1 ∷ [];
+      work = 9999;
+      out = 999;
+      number = 9;
+      second = 1;
+    }
+
+-- P1 with one work entry too few, and an output too small
+abbrev pub r10 : Refused
+r10 =
+    record {
+      block = 1 ∷ 0 ∷ 0 ∷ 0 ∷ 32 ∷ 0 ∷ 2 ∷ 0 ∷ 4 ∷ 0 ∷ 4 ∷ 0 ∷ 0 ∷ 0 ∷ 5 ∷ 0 ∷ 6 ∷ 0 ∷ 0 ∷ 1 ∷ 3 ∷ 0 ∷ 2 ∷ 0 ∷ 6 ∷ 0 ∷ 0 ∷ 1 ∷ 6 ∷ 1 ∷ 1 ∷ 0 ∷ 4 ∷ 0 ∷ 1 ∷ 0 ∷ 2 ∷ [];
+      work = 7;
+      out = 0;
+      number = 10;
+      second = 8;
+    }
+
+-- P1 with one byte of output too few
+abbrev pub r11 : Refused
+r11 =
+    record {
+      block = 1 ∷ 0 ∷ 0 ∷ 0 ∷ 32 ∷ 0 ∷ 2 ∷ 0 ∷ 4 ∷ 0 ∷ 4 ∷ 0 ∷ 0 ∷ 0 ∷ 5 ∷ 0 ∷ 6 ∷ 0 ∷ 0 ∷ 1 ∷ 3 ∷ 0 ∷ 2 ∷ 0 ∷ 6 ∷ 0 ∷ 0 ∷ 1 ∷ 6 ∷ 1 ∷ 1 ∷ 0 ∷ 4 ∷ 0 ∷ 1 ∷ 0 ∷ 2 ∷ [];
+      work = 8;
+      out = 24;
+      number = 11;
+      second = 25;
+    }
+
+abbrev pub refusals : List Refused
+refusals = r1 ∷ r2 ∷ r3 ∷ r4 ∷ r5 ∷ r6 ∷ r7 ∷ r8 ∷ r9 ∷ r10 ∷ r11 ∷ []
+
+pub refusals-hold : All Refuses refusals
+unfolding opened
+refusals-hold = (refl, (refl, (refl, (refl, (refl, (refl, (refl, (refl, (refl, (refl, (refl, tt)))))))))))

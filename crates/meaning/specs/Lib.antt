@@ -1,0 +1,14 @@
+pub mod Numbers
+pub mod Block
+pub mod Active
+pub mod Closing
+pub mod Division
+pub mod Charge
+pub mod Letters
+pub mod Table
+pub mod Answer
+pub mod Refusals
+pub mod Call
+pub mod Rule
+pub mod Opened
+pub mod Examples

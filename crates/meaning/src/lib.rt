@@ -1,0 +1,1 @@
+// What the answer is: definitions in specs/, laws in proofs/. No code.

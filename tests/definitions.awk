@@ -1,0 +1,49 @@
+# Turns the vectors into equations of antt. A case is four lines and a blank one: name, block in hex, the output, a later output.
+function value(s,   i, x) {
+  x = 0
+  for (i = 1; i <= length(s); i++) x = x * 16 + index("0123456789abcdef", tolower(substr(s, i, 1))) - 1
+  return x
+}
+function bytes(hex,   i, l) {
+  l = ""
+  for (i = 1; i < length(hex); i += 2) l = l value(substr(hex, i, 2)) " ∷ "
+  return "(" l "[])"
+}
+function letters(s,   i, l) {
+  l = ""
+  if (s == "none") return "[]"
+  for (i = 1; i <= length(s); i++) l = l substr(s, i, 1) " ∷ "
+  return "(" l "[])"
+}
+BEGIN {
+  print "use Prim.Native.Nat.{ℕ}"
+  print "use mathlib.Core.Path.{_≡_, refl}"
+  print "use mathlib.Core.List.{List, [], _∷_}"
+  print "use Rattle.meaning.specs.Block.{matrixOf}"
+  print "use Rattle.meaning.specs.Charge.{charge, leastCost}"
+  print "use Rattle.meaning.specs.Letters.{general}"
+  print "use Rattle.meaning.specs.Answer.{answer, answerBytes}"
+  print "use Rattle.meaning.specs.Refusals.{Numbers, passed, refusal}"
+  print "use Rattle.meaning.specs.Opened.{opened}"
+}
+/^#/ { next }
+!begun && /^$/ { begun = 1; next }
+begun {
+  line[++k] = $0
+  if (k < 5) next
+  k = 0
+  block = line[2]
+  m = value(substr(block, 11, 4)); n = value(substr(block, 15, 4))
+  split(line[3], word, /[ |]+/)
+  at = bytes(block)
+  if (word[1] == "refused") {
+    if (length(block) > 1200) next
+    printf "\nvector-%d : refusal 1 %s 16384 70000 ≡ record { number = %s; second = %s }\n", ++made, at, word[2], word[4]
+    printf "unfolding opened\nvector-%d = refl\n", made
+  } else {
+    if (2 ^ n * (n + 1) * m > 3000) next
+    printf "\nvector-%d : (refusal 1 %s 16384 70000 ≡ passed) × (leastCost charge (matrixOf %s) ≡ %s) × ", ++made, at, at, word[2]
+    printf "(answer general (matrixOf %s) ≡ answerBytes %s %s %s %s %s)\n", at, word[2], word[4], letters(word[6]), letters(word[8]), letters(word[10])
+    printf "unfolding opened\nvector-%d = (refl, refl, refl)\n", made
+  }
+}

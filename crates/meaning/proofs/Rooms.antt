@@ -3,11 +3,11 @@ use Prim.Native.Nat.{ℕ, zero, suc, _+_, _-_, _*_, _≤_, _<_}
 use lib.Dec.{ltb}
 use lib.ListN.{length, getD, drop, take, length-append, length-drop, List·getD-append}
 use lib.Pow.{pow-mono}
-use lib.Seq.{getD-append-add, drop-drop, drop-at, take-at}
+use lib.Seq.{length-take-le, getD-append-add, drop-append-add, drop-drop, drop-at, take-at}
 use mathlib.Core.Bool.{cond}
 use mathlib.Core.List.{List, [], _++_, append-assoc, append-nil}
-use mathlib.Core.Path.{_≡_, sym, ap, _∙_}
-use native.Mathlib.Nat.{add-zero, le-of-eq, le-trans, zero-add, add-suc}
+use mathlib.Core.Path.{_≡_, sym, ap, ap₂, _∙_}
+use native.Mathlib.Nat.{add-assoc, add-zero, le-of-eq, le-trans, zero-add, add-suc}
 use native.Mathlib.Omega.{arith}
 use Rattle.meaning.specs.Numbers.{maxTo}
 use Rattle.meaning.specs.Block.{Matrix}
@@ -16,7 +16,7 @@ use Rattle.meaning.specs.Closing.{activeReads}
 use Rattle.meaning.specs.Charge.{Sums}
 use Rattle.meaning.specs.Table.{entry, column, columnsTo, table}
 use Rattle.meaning.specs.Refusals.{workSize}
-use Rattle.meaning.specs.Call.{over}
+use Rattle.meaning.specs.Call.{over, laid}
 use Rattle.meaning.specs.Rule.{columnOf}
 use Rattle.meaning.proofs.Totals.{max-above}
 use Rattle.meaning.proofs.Lists.{length-run, getD-run}
@@ -99,3 +99,31 @@ over-more xs ys w =
 
 pub length-over : (xs w : List ℕ) → length xs ≤ length w → length (over xs w) ≡ length w
 length-over xs w h = length-append xs (drop (length xs) w) ∙ omega (arith, length-drop (length xs) w)
+
+-- one part laid behind another is both laid at once
+module _ (at : ℕ) (a b old : List ℕ) (fits : at + length a ≤ length old) where
+  front-length : length (take at old ++ a) ≡ at + length a
+  front-length = length-append (take at old) a ∙ ap (λ (n : ℕ). n + length a) (length-take-le at old (omega arith))
+
+  pub laid-join : laid (at + length a) b (laid at a old) ≡ laid at (a ++ b) old
+  laid-join =
+      let n : ℕ = at + length a in
+      let whole : laid at a old ≡ (take at old ++ a) ++ drop n old = sym (append-assoc (take at old) a (drop n old)) in
+      ap (λ (l : List ℕ). take n l ++ (b ++ drop (n + length b) l)) whole
+      ∙ ap₂ (λ (x y : List ℕ). x ++ (b ++ y))
+      (take-at (take at old ++ a) (drop n old) n front-length)
+      (ap (λ (k : ℕ). drop (k + length b) ((take at old ++ a) ++ drop n old)) (sym front-length)
+      ∙ drop-append-add (take at old ++ a) (drop n old) (length b)
+      ∙ drop-drop (length b) n old)
+      ∙ append-assoc (take at old) a (b ++ drop (n + length b) old)
+      ∙ ap (λ (l : List ℕ). take at old ++ l)
+      (sym (append-assoc a b (drop (n + length b) old)) ∙ ap (λ (k : ℕ). (a ++ b) ++ drop k old) (add-assoc at (length a) (length b) ∙ ap (λ (k : ℕ). at + k) (sym (length-append a b))))
+
+pub length-laid : (at : ℕ) (a old : List ℕ) → at + length a ≤ length old → length (laid at a old) ≡ length old
+length-laid at a old h =
+    length-append (take at old) (a ++ drop (at + length a) old)
+    ∙ ap₂ _+_ (length-take-le at old (omega arith)) (length-append a (drop (at + length a) old))
+    ∙ omega (arith, length-drop (at + length a) old)
+
+pub laid-front : (new old : List ℕ) → laid 0 new old ≡ over new old
+laid-front new old = ap (λ (n : ℕ). new ++ drop n old) (zero-add (length new))

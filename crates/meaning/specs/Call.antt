@@ -1,9 +1,9 @@
 -- A call: its two numbers, and what both rooms hold afterwards.
-use Prim.Native.Nat.{ℕ}
+use Prim.Native.Nat.{ℕ, _+_}
 use mathlib.Core.Path.{_≡_}
 use mathlib.Core.Bool.{cond}
 use mathlib.Core.List.{List, _++_}
-use lib.ListN.{length, drop}
+use lib.ListN.{length, take, drop}
 use lib.Dec.{eqb}
 use Rattle.meaning.specs.Block.{matrixOf}
 use Rattle.meaning.specs.Charge.{leastCost}
@@ -21,6 +21,10 @@ pub record Result : Type 0 where
 -- new in front, behind it what was there
 abbrev pub over : List ℕ → List ℕ → List ℕ
 over new old = new ++ drop (length new) old
+
+-- new from place `at` on, what was there before and behind it
+abbrev pub laid : ℕ → List ℕ → List ℕ → List ℕ
+laid at new old = take at old ++ (new ++ drop (at + length new) old)
 
 -- acceptance: the cost, the table and the answer block; what lies beyond them is kept
 unfoldable pub accepts : Mode → List ℕ → List ℕ → List ℕ → Result

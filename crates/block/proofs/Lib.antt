@@ -1,0 +1,8 @@
+pub mod Fields
+pub mod HeaderChecks
+pub mod CellChecks
+pub mod HeadChecks
+pub mod Walk
+pub mod BlockChecks
+pub mod Laws
+pub mod PlacesNoted

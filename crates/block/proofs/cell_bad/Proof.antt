@@ -1,0 +1,58 @@
+-- `cell_bad` meets its contract: each return is a law of CellChecks. Assumes nothing.
+use borrow.Author.Needs.{needs}
+use native.Mathlib.Omega.{arith}
+use mathlib.Core.Path.{_≡_}
+use Prim.Native.Nat.{_*_}
+use lib.ListN.{getD}
+use Rattle.block.proofs.CellChecks.{is-letter, is-above, is-weighted, is-first, is-last}
+use Rattle.block.proofs.cell_bad.Statement.{statement}
+use Rattle.block.proofs.cell_bad.Tie as tie
+
+mul-at : tie.Need-mul-at
+mul-at c = search needs
+
+shared-slice-read-letter : tie.Need-shared-slice-read-letter
+shared-slice-read-letter c = search needs
+
+-- the letter that is neither below nor above 2
+hole : (c : tie.Else2) → getD (c .before .before .before .args .cells .now) (2 * c .before .before .before .args .i) 0 ≡ 2
+hole c = omega arith
+
+returns : tie.Need-returns
+returns c = is-letter _ _ (c .if1 .taken)
+
+returns-2 : tie.Need-returns-2
+returns-2 c = is-above _ _ (c .if2 .taken)
+
+add-if3 : tie.Need-add-if3
+add-if3 c = search needs
+
+shared-slice-read-if3 : tie.Need-shared-slice-read-if3
+shared-slice-read-if3 c = search needs
+
+returns-3 : tie.Need-returns-3
+returns-3 c = is-weighted _ (c .before .before .before .before .before .args .i) (hole (c .before .before)) (c .if3 .taken)
+
+returns-4 : tie.Need-returns-4
+returns-4 c = is-first _ (c .before .before .before .before .before .before .args .i) (hole (c .before .before .before)) (c .before .if3 .left) (c .if4 .taken)
+
+add-result : tie.Need-add-result
+add-result c = search needs
+
+returns-5 : tie.Need-returns-5
+returns-5 c = is-last _ (c .before .before .before .before .before .before .args .i) (hole (c .before .before .before)) (c .before .if3 .left) (c .if4 .left)
+
+pub cell-bad-spec : {M : Type 1} → statement M
+cell-bad-spec =
+    tie.close
+    (tie.spec
+    mul-at
+    shared-slice-read-letter
+    returns
+    returns-2
+    add-if3
+    shared-slice-read-if3
+    returns-3
+    returns-4
+    add-result
+    returns-5)

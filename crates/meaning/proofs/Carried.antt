@@ -51,7 +51,7 @@ module _ (xs ys : List ℕ) (u : Distinct (xs ++ ys)) (d : Division) where
           ∙ back s q (front xs ys u d k h q (fixed q m n) ∙ ap (λ (b : Bool). cond b (other d) d q) t)
 
   -- the rows of the classes: all entries, by lower digits
-  rows : used (length xs) * (used (length (xs ++ ys)) / used (length xs)) ≡ used (length (xs ++ ys))
+  pub rows : used (length xs) * (used (length (xs ++ ys)) / used (length xs)) ≡ used (length (xs ++ ys))
   rows =
       let n : ℕ = length (xs ++ ys) in
       let le : length xs ≤ n = subst (λ (x : ℕ). length xs ≤ x) (sym (length-append xs ys)) (omega arith) in

@@ -6,7 +6,7 @@ use mathlib.Core.Bool.{Bool, true, false, cond, _||_, true≢false, false≢true
 use mathlib.Core.List.{List, [], _∷_, _++_}
 use mathlib.Core.Logic.{inl, inr}
 use mathlib.Core.Path.{_≡_, refl, sym, ap, _∙_, ap₂, fun-ext}
-use native.Mathlib.Nat.{le-of-eq, le-trans, min-le-left, min-le-right}
+use native.Mathlib.Nat.{zero-add, le-of-eq, le-trans, min-le-left, min-le-right}
 use native.Mathlib.Omega.{arith}
 use Rattle.meaning.specs.Numbers.{has}
 use Rattle.meaning.specs.Division.{Side, Division, allZero, put, Agree, NotAfter, leastOver, lesser, firstOver}
@@ -213,3 +213,6 @@ pub not-after-ext : (rs : List ℕ) (x d e : Division) → ((q : ℕ) → has q 
 not-after-ext [] x d e h n = tt
 not-after-ext (r ∷ rs) x d e h (inl n) = inl (n .0, sym (h r (has-here r rs)) ∙ n .1)
 not-after-ext (r ∷ rs) x d e h (inr n) = inr (n .0 ∙ h r (has-here r rs), not-after-ext rs x d e (λ q m. h q (has-more q r rs m)) (n .1))
+
+pub first-ext : (rs : List ℕ) (f g : Division → ℕ) (d : Division) → ((e : Division) → Agree rs d e → f e ≡ g e) → firstOver rs f d ≡ firstOver rs g d
+first-ext rs f g d h = first-shift rs 0 f g d (λ e a. h e a ∙ sym (zero-add (g e)))

@@ -7,7 +7,7 @@ use mathlib.Core.Bool.{Bool, true, false, cond, _&&_, _||_, true≢false, false�
 use mathlib.Core.List.{List, [], _∷_, _++_}
 use mathlib.Core.Logic.{_≢_, _⊎_, inl, inr}
 use mathlib.Core.Path.{_≡_, refl, sym, ap, _∙_, ap₂}
-use native.Mathlib.Nat.{le-of-suc-le-suc, not-suc-le-zero, add-zero}
+use native.Mathlib.Nat.{le-refl, le-of-suc-le-suc, not-suc-le-zero, add-zero}
 use native.Mathlib.Omega.{arith}
 use Rattle.meaning.specs.Numbers.{bit, sumTo, anyTo, run, keep, upTo, has}
 use Rattle.meaning.proofs.Totals.{sum-ext, sum-add, sum-zero, sum-change}
@@ -23,10 +23,22 @@ getD-run i zero f k x h = absurd (not-suc-le-zero h)
 getD-run i (suc n) f zero x h = ap f (sym (add-zero i))
 getD-run i (suc n) f (suc k) x h = getD-run (suc i) n f k x (le-of-suc-le-suc h) ∙ ap f (omega arith)
 
-pub run-ext : {A : Type 0} (i n : ℕ) {f g : ℕ → A} → ((k : ℕ) → f k ≡ g k) → run i n f ≡ run i n g
+-- where two functions agree, so do their runs; a run grows at its end
+pub run-ext-at : {A : Type 0} (i n : ℕ) {f g : ℕ → A} → ((k : ℕ) → i ≤ k → k < i + n → f k ≡ g k) → run i n f ≡ run i n g
 unfolding run
-run-ext i zero h = refl
-run-ext i (suc n) {f} {g} h = ap₂ _∷_ (h i) (run-ext (suc i) n h)
+run-ext-at i zero h = refl
+run-ext-at i (suc n) {f} {g} h = ap₂ _∷_ (h i (le-refl i) (omega arith)) (run-ext-at (suc i) n (λ k a b. h k (omega arith) (omega arith)))
+
+pub run-ext : {A : Type 0} (i n : ℕ) {f g : ℕ → A} → ((k : ℕ) → f k ≡ g k) → run i n f ≡ run i n g
+run-ext i n h = run-ext-at i n (λ k a b. h k)
+
+pub run-more : {A : Type 0} (i n : ℕ) (f : ℕ → A) → run i (suc n) f ≡ run i n f ++ (f (i + n) ∷ [])
+unfolding run
+run-more i zero f = ap (λ (k : ℕ). f k ∷ []) (sym (add-zero i))
+run-more {A} i (suc n) f = ap (λ (l : List A). f i ∷ l) (run-more (suc i) n f) ∙ ap (λ (k : ℕ). f i ∷ (run (suc i) n f ++ (f k ∷ []))) (shift i n)
+  where
+    shift : (i n : ℕ) → suc i + n ≡ i + suc n
+    shift i n = omega arith
 
 -- a test that passes somewhere
 pub any-at : (n : ℕ) (f : ℕ → Bool) (i : ℕ) → i < n → f i ≡ true → anyTo n f ≡ true

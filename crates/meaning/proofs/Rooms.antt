@@ -1,12 +1,12 @@
 -- The table as a list: its length, its columns and entries, and how one part more is laid into a room.
 use Prim.Native.Nat.{ℕ, zero, suc, _+_, _-_, _*_, _≤_, _<_}
 use lib.Dec.{ltb}
-use lib.ListN.{length, getD, drop, take, length-append, length-drop, List·getD-append}
+use lib.ListN.{length, getD, drop, take, set, length-append, length-drop, List·getD-append}
 use lib.Pow.{pow-mono}
-use lib.Seq.{length-take-le, getD-append-add, drop-append-add, drop-drop, drop-at, take-at}
+use lib.Seq.{length-take-le, sets-eq, set-append-left, take-set-lt, drop-set-lt, take-append-le, take-take, getD-append-add, drop-append-add, drop-drop, drop-at, take-at}
 use mathlib.Core.Bool.{cond}
-use mathlib.Core.List.{List, [], _++_, append-assoc, append-nil}
-use mathlib.Core.Path.{_≡_, sym, ap, ap₂, _∙_}
+use mathlib.Core.List.{List, [], _∷_, _++_, append-assoc, append-nil}
+use mathlib.Core.Path.{_≡_, sym, ap, ap₂, _∙_, subst}
 use native.Mathlib.Nat.{add-assoc, add-zero, le-of-eq, le-trans, zero-add, add-suc}
 use native.Mathlib.Omega.{arith}
 use Rattle.meaning.specs.Numbers.{maxTo}
@@ -127,3 +127,28 @@ length-laid at a old h =
 
 pub laid-front : (new old : List ℕ) → laid 0 new old ≡ over new old
 laid-front new old = ap (λ (n : ℕ). new ++ drop n old) (zero-add (length new))
+
+-- one byte more at the end of a part, and a byte before it
+pub set-laid : (l : List ℕ) (i v : ℕ) → i < length l → set l i v ≡ laid i (v ∷ []) l
+set-laid l i v h = sets-eq (v ∷ []) l i (omega arith) ∙ append-assoc (take i l) (v ∷ []) (drop (i + 1) l)
+
+pub set-laid-end : (at : ℕ) (a old : List ℕ) (v : ℕ) → at + length a < length old → set (laid at a old) (at + length a) v ≡ laid at (a ++ (v ∷ [])) old
+set-laid-end at a old v h =
+    set-laid (laid at a old) (at + length a) v (subst (λ (n : ℕ). at + length a < n) (sym (length-laid at a old (omega arith))) h)
+    ∙ laid-join at a (v ∷ []) old (omega arith)
+
+pub set-laid-before : (at : ℕ) (a old : List ℕ) (i v : ℕ) → i < at → at ≤ length old → set (laid at a old) i v ≡ laid at a (set old i v)
+set-laid-before at a old i v l h =
+    set-append-left (take at old) (a ++ drop (at + length a) old) i v (subst (λ (n : ℕ). i < n) (sym (length-take-le at old h)) l)
+    ∙ ap₂ (λ (x y : List ℕ). x ++ (a ++ y)) (sym (take-set-lt at old i v l)) (sym (drop-set-lt (at + length a) old i v (omega arith)))
+
+-- a part laid in front of another
+pub laid-before : (at : ℕ) (a b old : List ℕ) → at + length a + length b ≤ length old → laid at a (laid (at + length a) b old) ≡ laid at (a ++ b) old
+laid-before at a b old h =
+    let n : ℕ = at + length a in
+    let inside : length (take n old) ≡ n = length-take-le n old (omega arith) in
+    ap₂ (λ (x y : List ℕ). x ++ (a ++ y))
+    (take-append-le at (take n old) (b ++ drop (n + length b) old) (omega arith) ∙ take-take at n old (omega arith))
+    (drop-at (take n old) (b ++ drop (n + length b) old) n inside)
+    ∙ ap (λ (l : List ℕ). take at old ++ l)
+    (sym (append-assoc a b (drop (n + length b) old)) ∙ ap (λ (k : ℕ). (a ++ b) ++ drop k old) (add-assoc at (length a) (length b) ∙ ap (λ (k : ℕ). at + k) (sym (length-append a b))))

@@ -84,3 +84,8 @@ min-attained (suc n) f = go (leb (minTo n f) (f (suc n))) refl (min-attained n f
     go : (b : Bool) → leb (minTo n f) (f (suc n)) ≡ b → (i : ℕ) × (i ≤ n) × (f i ≡ minTo n f) → (i : ℕ) × (i ≤ suc n) × (f i ≡ min (minTo n f) (f (suc n)))
     go true e w = (w .0, let h : w .0 ≤ n = w .1 in omega arith, let h : f (w .0) ≡ minTo n f = w .2 in omega (arith, leb-true (minTo n f) (f (suc n)) e))
     go false e w = (suc n, le-refl (suc n), omega (arith, leb-false (minTo n f) (f (suc n)) e))
+
+pub min-ext : (n : ℕ) {f g : ℕ → ℕ} → ((i : ℕ) → i ≤ n → f i ≡ g i) → minTo n f ≡ minTo n g
+unfolding minTo
+min-ext zero h = h 0 zero-le
+min-ext (suc n) h = ap₂ min (min-ext n (λ i l. h i (omega arith))) (h (suc n) (le-refl (suc n)))

@@ -2,7 +2,8 @@
 use Prim.Native.Nat.{ℕ, _+_, _*_}
 use mathlib.Core.Bool.{true, false}
 use mathlib.Core.List.{List, [], _∷_, _++_}
-use lib.ListN.{length}
+use lib.ListN.{length, getD}
+use lib.Dec.{eqb}
 use Rattle.meaning.specs.Numbers.{bit, run, bytesOf}
 use Rattle.meaning.specs.Block.{Matrix}
 use Rattle.meaning.specs.Active.{count}
@@ -25,6 +26,10 @@ answerBytes cost flipped sides hap1 hap2 =
 -- one byte for each read's side
 unfoldable pub sidesOf : Matrix → Division → List ℕ
 sidesOf M d = run 0 (count M) (λ r. bit (d r))
+
+-- and back: the division that a run of such bytes gives
+abbrev pub divisionOf : List ℕ → Division
+divisionOf sides r = eqb (getD sides r 0) 1
 
 -- one byte for each letter of a side's haplotype
 unfoldable pub lettersOf : Matrix → Haplotypes → Side → List ℕ

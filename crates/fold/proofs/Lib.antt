@@ -1,0 +1,5 @@
+pub mod Count
+pub mod Places
+pub mod Digits
+pub mod Laws
+pub mod Masks

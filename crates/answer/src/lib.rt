@@ -1,10 +1,8 @@
-// The answer block: its head, and the letters of a column.
+// The answer block: its head, and how its parts are laid into the output.
 ghost use mathlib.Core.Path.{_≡_};
-ghost use mathlib.Core.Bool.{not};
 ghost use Prim.Native.Nat.{ℕ, _+_, _*_, _≤_, _<_};
 ghost use lib.ListN.{length};
-ghost use lib.Dec.{ltb};
-ghost use Rattle.meaning.specs.Numbers.{bit, bytesOf};
+ghost use Rattle.meaning.specs.Numbers.{bytesOf};
 ghost use Rattle.meaning.specs.Call.{laid};
 ghost use Rattle.answer.specs.Head.{headBytes};
 
@@ -37,11 +35,4 @@ pub fn put_head(out: &mut [u8], cost: u32, flips: u32, n: usize, m: usize)
     put_long(out, 9, flips as usize);
     put_word(out, 13, n);
     put_word(out, 15, m);
-}
-
-// The letter of a side from its two sums: 0 if W0 < W1, otherwise 1.
-pub fn letter(w0: u32, w1: u32) -> u8
-    ensures { λ r. ⌜ r ≡ bit (not (ltb w0 w1)) ⌝ }
-{
-    if w0 < w1 { 0 } else { 1 }
 }

@@ -5,6 +5,7 @@ ghost use lib.ListN.{length, getD};
 ghost use Rattle.meaning.specs.Active.{used};
 ghost use Rattle.fold.specs.Turn.{startsBefore, sharedTo, maskOf, turnAt};
 
+// A read number or a column, to index with.
 pub fn wide(x: u16) -> usize
     ensures { λ r. ⌜ r ≡ x ⌝ }
 {
@@ -38,6 +39,7 @@ pub fn shared(list: &[u16], p: usize, first: &[u16], j: usize) -> usize
     count
 }
 
+// 2 to the power i.
 pub fn power(i: usize) -> usize
     requires { ⌜ i < 12 ⌝ }
     ensures { λ r. ⌜ r ≡ 2 ^ i ⌝ }

@@ -1,0 +1,5 @@
+pub mod Pieces
+pub mod Decimals
+pub mod Lines
+pub mod Fields
+pub mod Accepted

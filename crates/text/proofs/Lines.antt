@@ -1,0 +1,30 @@
+-- The lines by their cases. Assumes nothing.
+use Prim.Native.Nat.{ℕ, _+_, _-_}
+use mathlib.Core.Path.{_≡_}
+use mathlib.Core.List.{List, _++_, append-assoc, map}
+use native.Mathlib.Nat.{add-sub-cancel-left}
+use borrow.Author.Tests.{eq-eqb, ne-eqb}
+use lib.ListN.{length, take, drop}
+use Rattle.meaning.specs.Numbers.{word, long}
+use Rattle.text.specs.Text.{decimal, mark, line, costWord, flipsWord, sidesWord, noneWord, hap1Word, hap2Word, refusedWord, atWord, sidesText, answerText, refusalText}
+
+pub sides-none : (s : List ℕ) → length s ≡ 0 → line sidesWord noneWord ≡ line sidesWord (sidesText s)
+sides-none s h = rw (eq-eqb (length s) 0 h)
+
+pub sides-some : (s : List ℕ) → (length s ≡ 0 → ⊥) → line sidesWord (map mark s) ≡ line sidesWord (sidesText s)
+sides-some s h = rw (ne-eqb (length s) 0 h)
+
+-- the sides and the letters as the code's parts of the block have them
+pub answer-is : (b : List ℕ) (n m x y : ℕ) → n ≡ word b 13 → m ≡ word b 15 → x ≡ long b 5 → y ≡ long b 9
+    → line costWord (decimal x)
+    ++ (line flipsWord (decimal y)
+    ++ (line sidesWord (sidesText (take (17 + n - 17) (drop 17 b)))
+    ++ (line hap1Word (map mark (take (17 + n + m - (17 + n)) (drop (17 + n) b)))
+    ++ line hap2Word (map mark (take (17 + n + m + m - (17 + n + m)) (drop (17 + n + m) b))))))
+    ≡ answerText b
+unfolding answerText
+answer-is b n m x y en em ex ey = simp add-sub-cancel-left (rw (en, em, ex, ey))
+
+pub refusal-is : (x y : ℕ) → refusedWord ++ (decimal x ++ line atWord (decimal y)) ≡ refusalText x y
+unfolding refusalText
+refusal-is x y = simp append-assoc

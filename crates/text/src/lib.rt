@@ -1,0 +1,174 @@
+// The text that `phase` prints: the five lines of an answer block, or the one line of a refusal.
+ghost use mathlib.Core.Path.{_≡_};
+ghost use mathlib.Core.List.{[], _∷_, _++_, map};
+ghost use Prim.Native.Nat.{_+_, _≤_, _<_};
+ghost use lib.ListN.{length, drop};
+ghost use Rattle.meaning.specs.Numbers.{word, long};
+ghost use Rattle.text.specs.Text.{decimal, mark, line, sidesWord, hap1Word, hap2Word, sidesText, answerText, refusalText, textOf};
+ghost use Rattle.text.specs.Put.{Put, Whole};
+
+fn wide(b: u8) -> u32
+    ensures { λ r. ⌜ (r ≡ b) × (r < 256) ⌝ }
+{
+    b as u32
+}
+
+// The big-endian number of the two bytes from `at` on.
+fn word_at(b: &[u8], at: usize) -> u32
+    requires { ⌜ at + 2 ≤ length (now b) ⌝ }
+    ensures { λ r. ⌜ (r ≡ word (now (b .entry)) at) × (r < 65536) ⌝ }
+{
+    wide(b[at]) * 256 + wide(b[at + 1])
+}
+
+// The big-endian number of the four bytes from `at` on.
+fn long_at(b: &[u8], at: usize) -> u32
+    requires { ⌜ at + 4 ≤ length (now b) ⌝ }
+    ensures { λ r. ⌜ r ≡ long (now (b .entry)) at ⌝ }
+{
+    word_at(b, at) * 65536 + word_at(b, at + 2)
+}
+
+// The character of a digit.
+fn digit(x: u32) -> u8
+    requires { ⌜ x < 10 ⌝ }
+    ensures { λ r. ⌜ r ≡ 48 + x ⌝ }
+{
+    b'0' + x as u8
+}
+
+// The character of a side or a letter.
+fn mark_of(x: u8) -> u8
+    ensures { λ r. ⌜ r ≡ mark x ⌝ }
+{
+    if x == 0 { b'0' } else { b'1' }
+}
+
+// Each `put_..` writes its piece from `at` on and answers where the piece ends.
+fn put_byte(text: &mut [u8], at: usize, b: u8) -> usize
+    requires { ⌜ at + 1 ≤ length (now text) ⌝ }
+    ensures { λ r. ⌜ Put (now (text .entry)) at (b ∷ []) (now (text .exit)) r ⌝ }
+{
+    text[at] = b;
+    at + 1
+}
+
+fn put_bytes(text: &mut [u8], at: usize, bytes: &[u8]) -> usize
+    requires { ⌜ at + length (now bytes) ≤ length (now text) ⌝ }
+    ensures { λ r. ⌜ Put (now (text .entry)) at (now (bytes .entry)) (now (text .exit)) r ⌝ }
+{
+    let mut end = at;
+    let mut i = 0;
+    while i < bytes.len() {
+        end = put_byte(text, end, bytes[i]);
+        i += 1;
+    }
+    end
+}
+
+// The sides or the letters, a character each.
+fn put_marks(text: &mut [u8], at: usize, marks: &[u8]) -> usize
+    requires { ⌜ at + length (now marks) ≤ length (now text) ⌝ }
+    ensures { λ r. ⌜ Put (now (text .entry)) at (map mark (now (marks .entry))) (now (text .exit)) r ⌝ }
+    ensures { λ r. ⌜ r ≡ at + length (now (marks .entry)) ⌝ }
+{
+    let mut end = at;
+    let mut i = 0;
+    while i < marks.len() {
+        end = put_byte(text, end, mark_of(marks[i]));
+        i += 1;
+    }
+    end
+}
+
+// The digits before the last, then the last.
+fn put_decimal(text: &mut [u8], at: usize, x: u32) -> usize
+    requires { ⌜ at + 10 ≤ length (now text) ⌝ }
+    ensures { λ r. ⌜ Put (now (text .entry)) at (decimal x) (now (text .exit)) r ⌝ }
+    ensures { λ r. ⌜ r ≤ at + 10 ⌝ }
+{
+    if x < 10 {
+        return put_byte(text, at, digit(x));
+    }
+    let last = put_decimal(text, at, x / 10);
+    put_byte(text, last, digit(x % 10))
+}
+
+fn put_number_line(text: &mut [u8], at: usize, name: &[u8], x: u32) -> usize
+    requires { ⌜ at + length (now name) + 11 ≤ length (now text) ⌝ }
+    ensures { λ r. ⌜ Put (now (text .entry)) at (line (now (name .entry)) (decimal x)) (now (text .exit)) r ⌝ }
+    ensures { λ r. ⌜ r ≤ at + length (now (name .entry)) + 11 ⌝ }
+{
+    let start = put_bytes(text, at, name);
+    let end = put_decimal(text, start, x);
+    put_byte(text, end, b'\n')
+}
+
+fn put_marks_line(text: &mut [u8], at: usize, name: &[u8], marks: &[u8]) -> usize
+    requires { ⌜ at + length (now name) + length (now marks) + 1 ≤ length (now text) ⌝ }
+    ensures { λ r. ⌜ Put (now (text .entry)) at (line (now (name .entry)) (map mark (now (marks .entry)))) (now (text .exit)) r ⌝ }
+    ensures { λ r. ⌜ r ≡ at + length (now (name .entry)) + length (now (marks .entry)) + 1 ⌝ }
+{
+    let start = put_bytes(text, at, name);
+    let end = put_marks(text, start, marks);
+    put_byte(text, end, b'\n')
+}
+
+fn put_sides_line(text: &mut [u8], at: usize, sides: &[u8]) -> usize
+    requires { ⌜ at + length (now sides) + 11 ≤ length (now text) ⌝ }
+    ensures { λ r. ⌜ Put (now (text .entry)) at (line sidesWord (sidesText (now (sides .entry)))) (now (text .exit)) r ⌝ }
+    ensures { λ r. ⌜ r ≤ at + length (now (sides .entry)) + 11 ⌝ }
+{
+    if sides.len() == 0 {
+        return put_bytes(text, at, b"sides none\n");
+    }
+    put_marks_line(text, at, b"sides ", sides)
+}
+
+// The lines of both haplotypes.
+fn put_letters(text: &mut [u8], at: usize, first: &[u8], second: &[u8]) -> usize
+    requires { ⌜ at + length (now first) + length (now second) + 12 ≤ length (now text) ⌝ }
+    ensures { λ r. ⌜ Put (now (text .entry)) at (line hap1Word (map mark (now (first .entry))) ++ line hap2Word (map mark (now (second .entry)))) (now (text .exit)) r ⌝ }
+{
+    let end = put_marks_line(text, at, b"hap1 ", first);
+    put_marks_line(text, end, b"hap2 ", second)
+}
+
+fn put_answer(text: &mut [u8], answer: &[u8]) -> usize
+    requires { ⌜ Whole (now answer) ⌝ }
+    requires { ⌜ 4096 ≤ length (now text) ⌝ }
+    ensures { λ r. ⌜ Put (now (text .entry)) 0 (answerText (now (answer .entry))) (now (text .exit)) r ⌝ }
+{
+    let n = word_at(answer, 13) as usize;
+    let m = word_at(answer, 15) as usize;
+    let first = 17 + n;
+    let second = first + m;
+    let end = second + m;
+    let a = put_number_line(text, 0, b"cost ", long_at(answer, 5));
+    let b = put_number_line(text, a, b"flips ", long_at(answer, 9));
+    let c = put_sides_line(text, b, &answer[17..first]);
+    put_letters(text, c, &answer[first..second], &answer[second..end])
+}
+
+fn put_refusal(text: &mut [u8], number: u32, second: u32) -> usize
+    requires { ⌜ 33 ≤ length (now text) ⌝ }
+    ensures { λ r. ⌜ Put (now (text .entry)) 0 (refusalText number second) (now (text .exit)) r ⌝ }
+{
+    let start = put_bytes(text, 0, b"refused ");
+    let end = put_decimal(text, start, number);
+    put_number_line(text, end, b" at ", second)
+}
+
+// Writes from the front of `text` what `phase` prints for a call's two numbers and its answer block, and answers its length.
+pub fn write_text(number: u32, second: u32, answer: &[u8], text: &mut [u8]) -> usize
+    requires { ⌜ (number ≡ 0 → Whole (now answer)) ⌝ }
+    requires { ⌜ 4096 ≤ length (now text) ⌝ }
+    ensures { λ r. ⌜ r ≡ length (textOf number second (now (answer .entry))) ⌝ }
+    ensures { λ r. ⌜ r ≤ length (now (text .entry)) ⌝ }
+    ensures { λ _. ⌜ now (text .exit) ≡ textOf number second (now (answer .entry)) ++ drop (length (textOf number second (now (answer .entry)))) (now (text .entry)) ⌝ }
+{
+    if number == 0 {
+        return put_answer(text, answer);
+    }
+    put_refusal(text, number, second)
+}

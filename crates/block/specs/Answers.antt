@@ -77,6 +77,7 @@ abbrev pub checkedNumbers : Verdict → Numbers
 checkedNumbers (Refused number second) = record { number = number; second = second }
 checkedNumbers (Passed m n) = passed
 
+-- a refusal has a number, and a block that passes its sizes
 abbrev pub checkedSizes : List ℕ → Verdict → Type 0
-checkedSizes b (Refused number second) = Unit {0}
+checkedSizes b (Refused number second) = 0 < number
 checkedSizes b (Passed m n) = Sized b m n

@@ -1,6 +1,6 @@
 -- Active reads, A and T.
-use Prim.Native.Nat.{ℕ, zero, suc, _+_, _-_, _^_}
-use mathlib.Core.Bool.{Bool, true, false, _&&_, cond}
+use Prim.Native.Nat.{ℕ, _+_, _-_, _^_}
+use mathlib.Core.Bool.{Bool, _&&_, cond}
 use lib.ListN.{length, getD}
 use lib.Dec.{leb, ltb}
 use Rattle.meaning.specs.Numbers.{bit, sumTo, maxTo}

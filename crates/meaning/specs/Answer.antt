@@ -1,7 +1,7 @@
 -- The answer block.
 use Prim.Native.Nat.{ℕ, _+_, _*_}
 use mathlib.Core.Bool.{true, false}
-use mathlib.Core.List.{List, [], _∷_, _++_}
+use mathlib.Core.List.{List, _∷_, _++_}
 use lib.ListN.{length, getD}
 use lib.Dec.{eqb}
 use Rattle.meaning.specs.Numbers.{bit, run, bytesOf}

@@ -2,7 +2,7 @@
 -- Nothing is checked here. `Refusals` says which blocks are refused; of any other this is the meaning.
 use Prim.Native.Nat.{ℕ, zero, suc, _+_, _*_, _-_, _/_}
 use mathlib.Core.List.{List, [], _∷_}
-use lib.ListN.{length, getD, take, drop}
+use lib.ListN.{getD, take, drop}
 use Rattle.meaning.specs.Numbers.{bigEndian, word, long, run}
 
 -- letter 0, letter 1 or 2 for a hole, and its weight

@@ -1,7 +1,7 @@
 -- The four sums of a column, its charge, the cost of a division, the least cost and the first of the cheapest divisions.
-use Prim.Native.Nat.{ℕ, suc, _+_, min}
+use Prim.Native.Nat.{ℕ, _+_, min}
 use mathlib.Core.Bool.{Bool, true, false, cond, not, Bool·beq}
-use lib.Dec.{ltb, eqb}
+use lib.Dec.{eqb}
 use Rattle.meaning.specs.Numbers.{bit, sumTo, upTo}
 use Rattle.meaning.specs.Block.{Cell, Matrix}
 use Rattle.meaning.specs.Active.{count, read, at}

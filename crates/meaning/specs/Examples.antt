@@ -6,7 +6,7 @@ use mathlib.Core.Path.{_≡_, refl}
 use mathlib.Core.List.{List, [], _∷_, _++_}
 use lib.ListN.{length, replicate}
 use Rattle.meaning.specs.Answer.{answerBytes}
-use Rattle.meaning.specs.Call.{Result, call}
+use Rattle.meaning.specs.Call.{call}
 use Rattle.meaning.specs.Opened.{opened}
 
 pub record Example : Type 0 where

@@ -1,5 +1,5 @@
 -- Letters, flips, and what any two strings of letters cost.
-use Prim.Native.Nat.{ℕ, suc, _+_}
+use Prim.Native.Nat.{ℕ}
 use mathlib.Core.Bool.{Bool, true, false, cond, not}
 use lib.Dec.{ltb, eqb}
 use Rattle.meaning.specs.Numbers.{bit, sumTo}

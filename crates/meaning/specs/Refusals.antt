@@ -1,10 +1,9 @@
 -- The numbers returned: the checks in the order of the table, and the first that applies.
 use Prim.Native.Nat.{ℕ, zero, suc, _+_, _*_, _-_, _%_}
-use mathlib.Core.Path.{_≡_}
-use mathlib.Core.Bool.{Bool, true, false, cond, not, _&&_, _||_}
-use mathlib.Core.List.{List, []}
-use lib.ListN.{length, getD}
-use lib.Dec.{leb, ltb, eqb}
+use mathlib.Core.Bool.{Bool, cond, not, _&&_, _||_}
+use mathlib.Core.List.{List}
+use lib.ListN.{length}
+use lib.Dec.{ltb, eqb}
 use Rattle.meaning.specs.Numbers.{anyTo}
 use Rattle.meaning.specs.Block.{Cell, Matrix, versionField, sizeField, columnsField, readsField, cellSize, lengthField, firstField, cellCount, cellsPart, cellAt, afterRead, afterReads, readsPart, matrixOf}
 use Rattle.meaning.specs.Active.{entries, activeCount}

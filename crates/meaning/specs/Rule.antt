@@ -1,7 +1,7 @@
 -- The column method: how a column follows from the one before, whatever that one holds, and how sides are read back from a table.
 -- This is document 000's recurrence, halved by its symmetry. It is what the code follows; that it gives the meaning is proved in proofs/.
 use Prim.Native.Nat.{ℕ, zero, suc, _+_, _*_, _-_, _/_}
-use mathlib.Core.Bool.{Bool, true, false, cond, not}
+use mathlib.Core.Bool.{cond, not}
 use mathlib.Core.List.{List, [], _∷_, tail}
 use lib.ListN.{length, getD, take, drop}
 use lib.Dec.{ltb}

@@ -2,7 +2,6 @@ use mathlib.Core.Path.{_≡_, ap, _∙_}
 use Rattle.meaning.specs.Numbers.{bytesOf}
 use Rattle.meaning.specs.Call.{laid}
 use Rattle.answer.proofs.Laws.{head-laid}
-use Prim.Native.Nat.{_≤_}
 use lib.ListN.{length}
 use native.Mathlib.Omega.{arith}
 use lib.ListN.{length-set}

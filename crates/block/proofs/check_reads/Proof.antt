@@ -46,22 +46,22 @@ returns : tie.Need-returns
 returns c =
     let w = c .before .before in
     let s = w .before .before .before .before in
-    (some-left _ _ _ (s .pre .0) (s .pre .1) (passes w) (w .at .given .0 .0) (ends w) (c .if1 .taken), tt)
+    (some-left _ _ _ (s .pre .0) (s .pre .1) (passes w) (w .at .given .0 .0) (ends w) (c .if1 .taken), omega arith)
 
 returns-2 : tie.Need-returns-2
 returns-2 c =
     let s = c .before .before .before .before .before in
-    (search-stop _ _ _ (s .pre .0) (s .pre .1) _ (ap searchNumbers (sym (c .before .r .given .1)) ∙ c .before .before .before .first-fault .ensures .0) (omega arith), tt)
+    (search-stop _ _ _ (s .pre .0) (s .pre .1) _ (ap searchNumbers (sym (c .before .r .given .1)) ∙ c .before .before .before .first-fault .ensures .0) (omega arith), omega arith)
 
 returns-3 : tie.Need-returns-3
 returns-3 c =
     let s = c .before .before .before .before .before in
-    (search-stop _ _ _ (s .pre .0) (s .pre .1) _ (ap searchNumbers (sym (c .before .r2 .given .1)) ∙ c .before .before .before .first-fault .ensures .0) (omega arith), tt)
+    (search-stop _ _ _ (s .pre .0) (s .pre .1) _ (ap searchNumbers (sym (c .before .r2 .given .1)) ∙ c .before .before .before .first-fault .ensures .0) (omega arith), omega arith)
 
 returns-4 : tie.Need-returns-4
 returns-4 c =
     let s = c .before .before .before .before .before in
-    (search-stop _ _ _ (s .pre .0) (s .pre .1) _ (ap searchNumbers (sym (c .before .r3 .given .1)) ∙ c .before .before .before .first-fault .ensures .0) (omega arith), tt)
+    (search-stop _ _ _ (s .pre .0) (s .pre .1) _ (ap searchNumbers (sym (c .before .r3 .given .1)) ∙ c .before .before .before .first-fault .ensures .0) (omega arith), omega arith)
 
 returns-5 : tie.Need-returns-5
 returns-5 c =

@@ -29,16 +29,16 @@ check-reads-requires : tie.Need-check-reads-requires
 check-reads-requires c κs = (sym (c .before .before .before .check-header .ensures .0) ∙ ap headerNumber (c .before .m .given .1), rw (c .before .m .given .1) at (c .before .before .before .check-header .ensures .1))
 
 returns : tie.Need-returns
-returns c = (header-stop _ _ (ap headerNumber (sym (c .enum-told .given .1)) ∙ c .before .before .check-header .ensures .0) (omega arith), tt)
+returns c = (header-stop _ _ (ap headerNumber (sym (c .enum-told .given .1)) ∙ c .before .before .check-header .ensures .0) (omega arith), omega arith)
 
 returns-2 : tie.Need-returns-2
-returns-2 c = (header-stop _ _ (ap headerNumber (sym (c .enum-told2 .given .1)) ∙ c .before .before .check-header .ensures .0) (omega arith), tt)
+returns-2 c = (header-stop _ _ (ap headerNumber (sym (c .enum-told2 .given .1)) ∙ c .before .before .check-header .ensures .0) (omega arith), omega arith)
 
 returns-3 : tie.Need-returns-3
-returns-3 c = (header-stop _ _ (ap headerNumber (sym (c .enum-told3 .given .1)) ∙ c .before .before .check-header .ensures .0) (omega arith), tt)
+returns-3 c = (header-stop _ _ (ap headerNumber (sym (c .enum-told3 .given .1)) ∙ c .before .before .check-header .ensures .0) (omega arith), omega arith)
 
 returns-4 : tie.Need-returns-4
-returns-4 c = (header-stop _ _ (ap headerNumber (sym (c .enum-told4 .given .1)) ∙ c .before .before .check-header .ensures .0) (omega arith), tt)
+returns-4 c = (header-stop _ _ (ap headerNumber (sym (c .enum-told4 .given .1)) ∙ c .before .before .check-header .ensures .0) (omega arith), omega arith)
 
 returns-5 : tie.Need-returns-5
 returns-5 c = search needs

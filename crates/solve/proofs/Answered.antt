@@ -1,0 +1,170 @@
+-- The answer block: sides, then letters column by column, then the head.
+use Prim.Native.Nat.{ℕ, suc, _+_, _-_, _*_, _≤_, _<_}
+use mathlib.Core.Path.{_≡_, refl, sym, ap, ap₂, _∙_, subst, fun-ext}
+use mathlib.Core.Bool.{Bool, true, false}
+use mathlib.Core.List.{List, [], _∷_, _++_}
+use native.Mathlib.Nat.{add-zero, zero-add}
+use native.Mathlib.Numerals.{add-one}
+use native.Mathlib.Decide.{decLe}
+use native.Mathlib.Omega.{arith}
+use lib.ListN.{length, getD, take, drop, set, length-append, length-drop, List·getD-eq-default, take-append-drop}
+use lib.Seq.{length-take-le, take-add, drop-at, take-at, take-append-le, take-take, drop-drop, ext-getD}
+use lib.Dec.{eqb}
+use Rattle.meaning.specs.Numbers.{bit, run, has}
+use Rattle.meaning.specs.Block.{Matrix}
+use Rattle.meaning.specs.Active.{count, at}
+use Rattle.meaning.specs.Closing.{closing, activeReads}
+use Rattle.meaning.specs.Division.{Division, allZero}
+use Rattle.meaning.specs.Charge.{charge, leastCost, best}
+use Rattle.meaning.specs.Letters.{general, Haplotypes, haplotypes, flips}
+use Rattle.meaning.specs.Answer.{sidesOf, divisionOf, lettersOf, answer}
+use Rattle.meaning.specs.Table.{column}
+use Rattle.meaning.specs.Rule.{columnOf, leastEntry, wayBack}
+use Rattle.meaning.specs.Call.{over, laid}
+use Rattle.meaning.proofs.Lists.{length-run, getD-run, run-more, not-both}
+use Rattle.meaning.proofs.Modes.{charge-swap}
+use Rattle.meaning.proofs.Best.{best-empty}
+use Rattle.meaning.proofs.Closing.{Placed, closing-lt}
+use Rattle.meaning.proofs.Rule.{rule-cost, rule-back}
+use Rattle.meaning.proofs.Rooms.{length-laid, set-laid-end, set-laid-before}
+use Rattle.answer.specs.Head.{headBytes}
+use Rattle.answer.proofs.Laws.{answer-laid}
+
+-- what lies before a laid part is kept
+pub front-kept : (a n at : ℕ) (new old : List ℕ) → a + n ≤ at → at ≤ length old → take n (drop a (laid at new old)) ≡ take n (drop a old)
+front-kept a n at new old h l =
+    let m : length (take at old) ≡ at = length-take-le at old l in
+    inner (laid at new old) (subst (λ (x : ℕ). a ≤ x) (sym (length-append (take at old) (new ++ drop (at + length new) old))) (omega arith))
+    ∙ ap (drop a) (take-append-le (a + n) (take at old) (new ++ drop (at + length new) old) (omega arith) ∙ take-take (a + n) at old h)
+    ∙ sym (inner old (omega arith))
+  where
+    inner : (x : List ℕ) → a ≤ length x → take n (drop a x) ≡ drop a (take (a + n) x)
+    inner x k = sym (ap (drop a) (take-add a n x) ∙ drop-at (take a x) (take n (drop a x)) a (length-take-le a x k))
+
+-- the letters of the first j columns, in both haplotypes
+abbrev pub lettersTo : ℕ → ℕ → (ℕ → ℕ) → (ℕ → ℕ) → ℕ → List ℕ → List ℕ
+lettersTo n m f g j out = laid (17 + n + m) (run 0 j g) (laid (17 + n) (run 0 j f) out)
+
+module _ (n m : ℕ) (f g : ℕ → ℕ) (out : List ℕ) (fits : 17 + n + 2 * m ≤ length out) where
+  pub letters-none : out ≡ lettersTo n m f g 0 out
+  unfolding run
+  letters-none = sym (nothing (17 + n + m) (laid (17 + n) [] out) ∙ nothing (17 + n) out)
+    where
+      nothing : (at : ℕ) (x : List ℕ) → laid at [] x ≡ x
+      nothing at x = ap (λ (k : ℕ). take at x ++ drop k x) (add-zero at) ∙ take-append-drop at x
+
+  pub letters-length : (j : ℕ) → j ≤ m → length (lettersTo n m f g j out) ≡ length out
+  letters-length j l =
+      let a : length (laid (17 + n) (run 0 j f) out) ≡ length out = length-laid (17 + n) (run 0 j f) out (omega (arith, length-run 0 j f)) in
+      length-laid (17 + n + m) (run 0 j g) (laid (17 + n) (run 0 j f) out) (omega (arith, length-run 0 j g)) ∙ a
+
+  pub letters-sides : (j : ℕ) → j ≤ m → take n (drop 17 (lettersTo n m f g j out)) ≡ take n (drop 17 out)
+  letters-sides j l =
+      let a : length (laid (17 + n) (run 0 j f) out) ≡ length out = length-laid (17 + n) (run 0 j f) out (omega (arith, length-run 0 j f)) in
+      front-kept 17 n (17 + n + m) (run 0 j g) (laid (17 + n) (run 0 j f) out) (omega arith) (omega arith)
+      ∙ front-kept 17 n (17 + n) (run 0 j f) out (omega arith) (omega arith)
+
+  pub letters-more : (j : ℕ) → j < m → set (set (lettersTo n m f g j out) (17 + n + j) (f j)) (17 + n + m + j) (g j) ≡ lettersTo n m f g (j + 1) out
+  letters-more j l =
+      let a : length (run 0 j f) ≡ j = length-run 0 j f in
+      let b : length (run 0 j g) ≡ j = length-run 0 j g in
+      let c : length (laid (17 + n) (run 0 j f) out) ≡ length out = length-laid (17 + n) (run 0 j f) out (omega arith) in
+      let more : (h : ℕ → ℕ) → run 0 j h ++ (h j ∷ []) ≡ run 0 (j + 1) h = λ h. ap (λ (k : ℕ). run 0 j h ++ (h k ∷ [])) (sym (zero-add j)) ∙ sym (run-more 0 j h) ∙ ap (λ (k : ℕ). run 0 k h) (sym (add-one j)) in
+      let first : set (lettersTo n m f g j out) (17 + n + j) (f j) ≡ laid (17 + n + m) (run 0 j g) (laid (17 + n) (run 0 (j + 1) f) out) =
+      set-laid-before (17 + n + m) (run 0 j g) (laid (17 + n) (run 0 j f) out) (17 + n + j) (f j) (omega arith) (omega arith)
+      ∙ ap (laid (17 + n + m) (run 0 j g))
+      (ap (λ (k : ℕ). set (laid (17 + n) (run 0 j f) out) (17 + n + k) (f j)) (sym a) ∙ set-laid-end (17 + n) (run 0 j f) out (f j) (omega arith) ∙ ap (λ (x : List ℕ). laid (17 + n) x out) (more f)) in
+      let d : length (laid (17 + n) (run 0 (j + 1) f) out) ≡ length out = length-laid (17 + n) (run 0 (j + 1) f) out (omega (arith, length-run 0 (j + 1) f)) in
+      ap (λ (x : List ℕ). set x (17 + n + m + j) (g j)) first
+      ∙ ap (λ (k : ℕ). set (laid (17 + n + m) (run 0 j g) (laid (17 + n) (run 0 (j + 1) f) out)) (17 + n + m + k) (g j)) (sym b)
+      ∙ set-laid-end (17 + n + m) (run 0 j g) (laid (17 + n) (run 0 (j + 1) f) out) (g j) (omega arith)
+      ∙ ap (λ (x : List ℕ). laid (17 + n + m) x (laid (17 + n) (run 0 (j + 1) f) out)) (more g)
+
+-- the sides of the reported division, read back
+pub sides-division : (M : Matrix) → divisionOf (sidesOf M (best charge M)) ≡ best charge M
+unfolding sidesOf
+sides-division M = fun-ext (λ r. go r (decLe (suc r) (count M)))
+  where
+    d : Division
+    d = best charge M
+
+    back : (s : Bool) → eqb (bit s) 1 ≡ s
+    back true = refl
+    back false = refl
+
+    out : (r : ℕ) → (r < count M → ⊥) → d r ≡ false
+    out r h = best-empty charge M r (not-both (has r (closing M)) (λ m. h (closing-lt M r m)))
+
+    go : (r : ℕ) → Dec (r < count M) → divisionOf (run 0 (count M) (λ q. bit (d q))) r ≡ d r
+    go r (yes l) = ap (λ (x : ℕ). eqb x 1) (getD-run 0 (count M) (λ q. bit (d q)) r 0 l ∙ ap (λ (k : ℕ). bit (d k)) (zero-add r)) ∙ back (d r)
+    go r (no h) =
+        ap (λ (x : ℕ). eqb x 1) (List·getD-eq-default (run 0 (count M) (λ q. bit (d q))) 0 (let e : length (run 0 (count M) (λ q. bit (d q))) ≡ count M = length-run 0 (count M) (λ q. bit (d q)) in omega arith))
+        ∙ sym (out r h)
+
+-- sides that are bits of a division, n of them
+pub sides-list : (M : Matrix) (sides : List ℕ) (d : Division) → length sides ≡ count M → ((r : ℕ) → getD sides r 0 ≡ bit (d r)) → sides ≡ sidesOf M d
+unfolding sidesOf
+sides-list M sides d e h =
+    ext-getD 0 sides (run 0 (count M) (λ r. bit (d r))) (e ∙ sym (length-run 0 (count M) (λ r. bit (d r))))
+    (λ r l. h r ∙ sym (getD-run 0 (count M) (λ q. bit (d q)) r 0 (subst (λ (x : ℕ). r < x) e l) ∙ ap (λ (k : ℕ). bit (d k)) (zero-add r)))
+
+-- all parts together
+pub answered : (M : Matrix) (n m cost flipped : ℕ) (old : List ℕ) → n ≡ count M → m ≡ M .columns → 17 + n + 2 * m ≤ length old
+    → cost ≡ leastCost charge M → flipped ≡ flips M (best charge M) (haplotypes general M (best charge M))
+    → laid 0 (headBytes cost flipped n m) (laid (17 + n + m) (lettersOf M (haplotypes general M (best charge M)) true)
+    (laid (17 + n) (lettersOf M (haplotypes general M (best charge M)) false) (laid 17 (sidesOf M (best charge M)) old)))
+    ≡ over (answer general M) old
+unfolding answer sidesOf lettersOf
+answered M n m cost flipped old e f fits c g =
+    let d : Division = best charge M in
+    let h : Haplotypes = haplotypes general M d in
+    answer-laid cost flipped n m (sidesOf M d) (lettersOf M h false) (lettersOf M h true) old
+    (length-run 0 (count M) (λ r. bit (d r)) ∙ sym e) (length-run 0 (M .columns) (λ j. bit (h false j)) ∙ sym f) (length-run 0 (M .columns) (λ j. bit (h true j)) ∙ sym f) fits
+    ∙ ap₂ (λ (x y : ℕ). over (Rattle.meaning.specs.Answer.answerBytes x y (sidesOf M d) (lettersOf M h false) (lettersOf M h true)) old) c g
+
+-- the part of the output that the sides are
+pub sides-laid : (n : ℕ) (sides old : List ℕ) → length sides ≡ n → 17 + n ≤ length old → take 17 old ++ (sides ++ drop (17 + n - 17) (drop 17 old)) ≡ laid 17 sides old
+sides-laid n sides old e l =
+    ap (λ (x : List ℕ). take 17 old ++ (sides ++ x)) (drop-drop (17 + n - 17) 17 old ∙ ap (λ (k : ℕ). drop k old) (let z : 17 + (17 + n - 17) ≡ 17 + length sides = omega arith in z))
+
+sides-read : (n : ℕ) (sides old : List ℕ) → length sides ≡ n → 17 ≤ length old → take n (drop 17 (laid 17 sides old)) ≡ sides
+sides-read n sides old e l =
+    ap (take n) (drop-at (take 17 old) (sides ++ drop (17 + length sides) old) 17 (length-take-le 17 old l)) ∙ take-at sides (drop (17 + length sides) old) n e
+
+-- the whole output, step by step as it is written
+pub finished : (M : Matrix) (n m cost flipped : ℕ) (old o1 o2 o3 : List ℕ) → n ≡ count M → m ≡ M .columns → 17 + n + 2 * m ≤ length old
+    → o1 ≡ laid 17 (sidesOf M (best charge M)) old
+    → flipped ≡ flips M (divisionOf (take n (drop 17 o1))) (haplotypes general M (divisionOf (take n (drop 17 o1))))
+    → o2 ≡ laid (17 + n + m) (lettersOf M (haplotypes general M (divisionOf (take n (drop 17 o1)))) true) (laid (17 + n) (lettersOf M (haplotypes general M (divisionOf (take n (drop 17 o1)))) false) o1)
+    → cost ≡ leastCost charge M → o3 ≡ laid 0 (headBytes cost flipped n m) o2 → o3 ≡ over (answer general M) old
+unfolding sidesOf
+finished M n m cost flipped old o1 o2 o3 e f fits a b c d g =
+    let k : length (sidesOf M (best charge M)) ≡ n = length-run 0 (count M) (λ r. bit (best charge M r)) ∙ sym e in
+    let s : divisionOf (take n (drop 17 o1)) ≡ best charge M =
+    ap (λ (x : List ℕ). divisionOf (take n (drop 17 x))) a ∙ ap divisionOf (sides-read n (sidesOf M (best charge M)) old k (omega arith)) ∙ sides-division M in
+    g
+    ∙ ap (laid 0 (headBytes cost flipped n m))
+    (c ∙ ap₂ (λ (x : Division) (y : List ℕ). laid (17 + n + m) (lettersOf M (haplotypes general M x) true) (laid (17 + n) (lettersOf M (haplotypes general M x) false) y)) s a)
+    ∙ answered M n m cost flipped old e f fits d (b ∙ ap (λ (x : Division). flips M x (haplotypes general M x)) s)
+
+-- the sides' part keeps its length, and so does the output
+pub sides-size : (n : ℕ) (sides old : List ℕ) → length sides ≡ length (take (17 + n - 17) (drop 17 old)) → 17 + n ≤ length old → length sides ≡ n
+sides-size n sides old e l = e ∙ length-take-le (17 + n - 17) (drop 17 old) (omega (arith, length-drop 17 old)) ∙ omega arith
+
+pub output-length : (n : ℕ) (sides old : List ℕ) → length sides ≡ length (take (17 + n - 17) (drop 17 old)) → 17 + n ≤ length old
+    → length (take 17 old ++ (sides ++ drop (17 + n - 17) (drop 17 old))) ≡ length old
+output-length n sides old e l =
+    let k : length sides ≡ n = sides-size n sides old e l in
+    ap length (sides-laid n sides old k l) ∙ length-laid 17 sides old (omega arith)
+
+-- the least entry of the last column is the cost
+pub cost-is : (M : Matrix) → Placed M → (m : ℕ) → m ≡ M .columns → 0 < m → (work : List ℕ) → columnOf M work (m - 1) ≡ column charge M (m - 1)
+    → leastEntry (activeReads M (m - 1)) (columnOf M work (m - 1)) ≡ leastCost charge M
+cost-is M placed m e z work h =
+    ap (leastEntry (activeReads M (m - 1))) h ∙ rule-cost charge charge-swap M placed (m - 1) (let q : M .columns ≡ suc (m - 1) = omega arith in q)
+
+-- the sides of the way back are those of the reported division
+pub sides-are : (M : Matrix) → Placed M → (m : ℕ) → m ≡ M .columns → (work : List ℕ) → ((j : ℕ) → j < M .columns → columnOf M work j ≡ column charge M j)
+    → sidesOf M (wayBack M (columnOf M work) m allZero) ≡ sidesOf M (best charge M)
+sides-are M placed m e work h =
+    ap (λ (k : ℕ). sidesOf M (wayBack M (columnOf M work) k allZero)) e ∙ ap (sidesOf M) (rule-back charge charge-swap M placed (columnOf M work) h)

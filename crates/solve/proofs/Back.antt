@@ -1,0 +1,151 @@
+-- One column of the way back, said of the definitions with the code's own terms.
+use Prim.Native.Nat.{ℕ, suc, _+_, _-_, _*_, _≤_, _<_}
+use mathlib.Core.Path.{_≡_, refl, sym, ap, ap₂, _∙_, subst, fun-ext}
+use mathlib.Core.Bool.{Bool, true, false, not}
+use mathlib.Core.List.{List, [], _∷_, _++_}
+use native.Mathlib.Numerals.{add-one}
+use native.Mathlib.Omega.{arith}
+use lib.ListN.{length, getD, take, drop, length-drop}
+use lib.Seq.{getD-take, length-take-le, drop-at, take-take}
+use lib.Dec.{eqb}
+use borrow.Author.Tests.{eq-eqb, ne-eqb}
+use Rattle.meaning.specs.Numbers.{bit, sumTo, has}
+use Rattle.meaning.specs.Block.{Matrix, columnsField, matrixOf}
+use Rattle.meaning.specs.Active.{count, read, active, end, used, entries}
+use Rattle.meaning.specs.Closing.{activeReads, closingAt}
+use Rattle.meaning.specs.Division.{Division, firstOver}
+use Rattle.meaning.specs.Answer.{divisionOf}
+use Rattle.meaning.specs.Rule.{entryFor, indexAt, sharedReads, columnOf, wayBack}
+use Rattle.meaning.proofs.Totals.{sum-ext}
+use Rattle.meaning.proofs.Lists.{sumOver, has-getD, has-here, has-more, has-keep, and-right, Distinct}
+use Rattle.meaning.proofs.Least.{first-ext}
+use Rattle.meaning.proofs.Closing.{active-split, active-cells, active-is, active-lt, ends-at, distinct-active}
+use Rattle.meaning.proofs.Index.{index-used}
+use Rattle.column.proofs.Join.{sum-places}
+use Rattle.solve.specs.Ready.{Ready}
+use Rattle.solve.proofs.Sizes.{columns-are, reads-are, column-sizes}
+use Rattle.solve.proofs.Columns.{listPart, part-listed, list-fits, height-is}
+
+sum-append : (xs ys : List ℕ) (f : ℕ → ℕ) → sumOver (xs ++ ys) f ≡ sumOver xs f + sumOver ys f
+sum-append [] ys f = omega arith
+sum-append (x ∷ xs) ys f = omega (arith, sum-append xs ys f)
+
+sum-all : (xs : List ℕ) (f : ℕ → ℕ) (c : ℕ) → ((q : ℕ) → has q xs ≡ true → f q ≡ c) → sumOver xs f ≡ length xs * c
+sum-all [] f c h = omega arith
+sum-all (x ∷ xs) f c h = omega (arith, h x (has-here x xs), sum-all xs f c (λ q m. h q (has-more q x xs m)))
+
+-- whether a read does not end after column j
+abbrev goes : Matrix → ℕ → ℕ → ℕ
+goes M j r = bit (not (eqb (end (read M r)) (suc j)))
+
+going : (M : Matrix) (j : ℕ) → j < M .columns → sumOver (activeReads M j) (goes M j) ≡ length (sharedReads M j)
+unfolding sharedReads
+going M j l =
+    ap (λ (x : List ℕ). sumOver x (goes M j)) (active-split M j l)
+    ∙ sum-append (sharedReads M j) (closingAt M j) (goes M j)
+    ∙ omega (arith, sum-all (sharedReads M j) (goes M j) 1 on, sum-all (closingAt M j) (goes M j) 0 off)
+  where
+    next : (q : ℕ) → has q (sharedReads M j) ≡ true → active (read M q) (suc j) ≡ true
+    next q m = active-is M (suc j) q (and-right (active (read M q) j) (has q (activeReads M (suc j))) (sym (has-keep (λ r. active (read M r) j) q (activeReads M (suc j))) ∙ m))
+
+    on : (q : ℕ) → has q (sharedReads M j) ≡ true → goes M j q ≡ 1
+    on q m =
+        let c = active-cells (read M q) (suc j) (next q m) in
+        ap (λ (b : Bool). bit (not b)) (ne-eqb (end (read M q)) (suc j) (λ e. omega arith))
+
+    off : (q : ℕ) → has q (closingAt M j) ≡ true → goes M j q ≡ 0
+    off q m = ap (λ (b : Bool). bit (not b)) (eq-eqb (end (read M q)) (suc j) (ends-at M j q m))
+
+module _ (b start first after counts lists : List ℕ) (ready : Ready b start first after counts lists) where
+  abbrev reads : ℕ → List ℕ
+  reads j = activeReads (matrixOf b) j
+
+  ends-are : (r : ℕ) → r < count (matrixOf b) → getD after r 0 ≡ end (read (matrixOf b) r)
+  ends-are r l = ready .noted .ends r (subst (λ (n : ℕ). r < n) (reads-are b) l)
+
+  module _ (j : ℕ) (l : j < columnsField b) (p : ℕ) (q : p ≡ getD counts j 0) where
+    in-columns : j < matrixOf b .columns
+    in-columns = subst (λ (x : ℕ). j < x) (sym (columns-are b)) l
+
+    -- the list's first p places are the column's active reads
+    pub list-is : take p (listPart b start first after counts lists ready j) ≡ activeReads (matrixOf b) j
+    list-is =
+        let f : p ≤ 12 = list-fits b start first after counts lists ready j l p q .0 in
+        take-take p (12 * j + 12 - 12 * j) (drop (12 * j) lists) (omega arith)
+        ∙ ap (λ (n : ℕ). take n (drop (12 * j) lists)) (height-is b start first after counts lists ready j l p q)
+        ∙ ready .piled .listed j in-columns
+
+    -- those that close stand behind those that go on
+    pub going-is : (s : ℕ) → s ≡ sumTo p (λ i. bit (not (eqb (getD after (getD (listPart b start first after counts lists ready j) i 0) 0) (j + 1)))) → s ≡ length (sharedReads (matrixOf b) j)
+    going-is s h =
+        h
+        ∙ sum-ext p (λ i k. each i (subst (λ (x : ℕ). i < x) (height-is b start first after counts lists ready j l p q) k))
+        ∙ ap (λ (n : ℕ). sumTo n (λ i. goes (matrixOf b) j (getD (reads j) i 0))) (height-is b start first after counts lists ready j l p q)
+        ∙ sym (sum-places (reads j) (goes (matrixOf b) j))
+        ∙ going (matrixOf b) j in-columns
+      where
+        each : (i : ℕ) → i < length (reads j) → bit (not (eqb (getD after (getD (listPart b start first after counts lists ready j) i 0) 0) (j + 1))) ≡ goes (matrixOf b) j (getD (reads j) i 0)
+        each i k =
+            let r : ℕ = getD (reads j) i 0 in
+            ap₂ (λ (x y : ℕ). bit (not (eqb x y)))
+            (ap (λ (x : ℕ). getD after x 0) (part-listed b start first after counts lists ready j l i k) ∙ ends-are r (active-lt (matrixOf b) j r (has-getD (reads j) i k)))
+            (add-one j)
+
+    pub closing-is : (s : ℕ) → s ≡ length (sharedReads (matrixOf b) j) → drop s (take p (listPart b start first after counts lists ready j)) ≡ closingAt (matrixOf b) j
+    closing-is s e =
+        ap (drop s) (list-is ∙ active-split (matrixOf b) j in-columns) ∙ drop-at (sharedReads (matrixOf b) j) (closingAt (matrixOf b) j) s (sym e)
+
+    pub list-distinct : Distinct (take p (listPart b start first after counts lists ready j))
+    list-distinct = subst Distinct (sym list-is) (distinct-active (matrixOf b) j)
+
+    -- the column's entries as a part of the work room
+    module _ (t : ℕ) (e : t ≡ entries (matrixOf b)) (work : List ℕ) (room : columnsField b * t ≤ length work) (n : ℕ) (f : n ≡ used p) where
+      entries-fit : n ≤ t
+      entries-fit = subst (λ (x : ℕ). x ≤ t) (sym (f ∙ ap used q)) (column-sizes b start first after counts lists ready j t l e .fits)
+
+      pub entries-length : length (take (j * t + n - j * t) (drop (j * t) work)) ≡ used p
+      entries-length =
+          let z = column-sizes b start first after counts lists ready j t l e in
+          let y : n ≤ t = entries-fit in
+          length-take-le (j * t + n - j * t) (drop (j * t) work) (omega (arith, length-drop (j * t) work)) ∙ omega arith
+
+      -- what the column's reads get is one step of the way back
+      pub settled : (s : ℕ) → s ≡ length (sharedReads (matrixOf b) j) → (old new : List ℕ)
+          → ((r : ℕ) → getD new r 0 ≡ bit (firstOver (drop s (take p (listPart b start first after counts lists ready j)))
+          (entryFor (take p (listPart b start first after counts lists ready j)) (take (j * t + n - j * t) (drop (j * t) work))) (divisionOf old) r))
+          → (r : ℕ) → getD new r 0 ≡ bit (firstOver (closingAt (matrixOf b) j) (entryFor (activeReads (matrixOf b) j) (columnOf (matrixOf b) work j)) (divisionOf old) r)
+      settled s g old new h r =
+          h r
+          ∙ ap₂ (λ (x y : List ℕ). bit (firstOver x (entryFor y (take (j * t + n - j * t) (drop (j * t) work))) (divisionOf old) r)) (closing-is s g) list-is
+          ∙ ap (λ (d : Division). bit (d r)) (first-ext (closingAt (matrixOf b) j) (entryFor (reads j) (take (j * t + n - j * t) (drop (j * t) work))) (entryFor (reads j) (columnOf (matrixOf b) work j)) (divisionOf old) (λ d a. same d))
+        where
+          same : (d : Division) → entryFor (reads j) (take (j * t + n - j * t) (drop (j * t) work)) d ≡ entryFor (reads j) (columnOf (matrixOf b) work j) d
+          same d =
+              let k : ℕ = indexAt (reads j) d in
+              let y : n ≤ t = entries-fit in
+              let i : k < n = subst (λ (x : ℕ). k < x) (sym (f ∙ ap used (height-is b start first after counts lists ready j l p q))) (index-used (reads j) d) in
+              getD-take (j * t + n - j * t) (drop (j * t) work) k 0 (omega arith)
+              ∙ ap (λ (a : ℕ). getD (drop (j * a) work) k 0) e
+              ∙ sym (getD-take (entries (matrixOf b)) (drop (j * entries (matrixOf b)) work) k 0 (omega arith))
+
+-- sides that are bits, and the division that they give
+pub bits-division : (sides : List ℕ) (d : Division) → ((r : ℕ) → getD sides r 0 ≡ bit (d r)) → divisionOf sides ≡ d
+bits-division sides d h = fun-ext (λ r. ap (λ (x : ℕ). eqb x 1) (h r) ∙ back (d r))
+  where
+    back : (s : Bool) → eqb (bit s) 1 ≡ s
+    back true = refl
+    back false = refl
+
+pub bits-small : (sides : List ℕ) (d : Division) → ((r : ℕ) → getD sides r 0 ≡ bit (d r)) → (r : ℕ) → getD sides r 0 ≤ 1
+bits-small sides d h r = subst (λ (x : ℕ). x ≤ 1) (sym (h r)) (small (d r))
+  where
+    small : (s : Bool) → bit s ≤ 1
+    small true = omega arith
+    small false = omega arith
+
+-- one column down
+pub back-step : (M : Matrix) (col : ℕ → List ℕ) (j : ℕ) (old new : List ℕ) (whole : Division)
+    → ((r : ℕ) → getD new r 0 ≡ bit (firstOver (closingAt M j) (entryFor (activeReads M j) (col j)) (divisionOf old) r))
+    → wayBack M col (suc j) (divisionOf old) ≡ whole → wayBack M col j (divisionOf new) ≡ whole
+unfolding wayBack
+back-step M col j old new whole h e = ap (wayBack M col j) (bits-division new (firstOver (closingAt M j) (entryFor (activeReads M j) (col j)) (divisionOf old)) h) ∙ e

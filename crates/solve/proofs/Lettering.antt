@@ -1,0 +1,110 @@
+-- The letters of one column, and of all columns in turn, with the code's own terms.
+use Prim.Native.Nat.{ℕ, _+_, _-_, _*_, _≤_, _<_, zero-le}
+use mathlib.Core.Path.{_≡_, refl, sym, ap, ap₂, _∙_, subst}
+use mathlib.Core.Bool.{true, false}
+use mathlib.Core.List.{List}
+use native.Mathlib.Omega.{arith}
+use lib.ListN.{length, getD, take, drop, set, length-drop}
+use lib.Seq.{length-take-le}
+use Rattle.meaning.specs.Numbers.{bit, sumTo}
+use Rattle.meaning.specs.Block.{Matrix, columnsField, readsField, matrixOf}
+use Rattle.meaning.specs.Active.{count, read, at}
+use Rattle.meaning.specs.Closing.{activeReads}
+use Rattle.meaning.specs.Division.{Side, Division}
+use Rattle.meaning.specs.Letters.{general, haplotypes, isFlip, flips}
+use Rattle.meaning.specs.Answer.{divisionOf, lettersOf}
+use Rattle.meaning.specs.Call.{laid}
+use Rattle.column.proofs.Laws.{leaf-more}
+use Rattle.cells.specs.declared.Letters.{Letters}
+use Rattle.cells.specs.Laid.{Laid, Lettered}
+use Rattle.solve.specs.Ready.{Ready}
+use Rattle.solve.proofs.Columns.{listPart, cells-laid}
+use Rattle.solve.proofs.Back.{list-is}
+use Rattle.solve.proofs.Answered.{lettersTo, letters-none, letters-length, letters-sides, letters-more}
+
+-- the sides as a part of the output
+module _ (n : ℕ) (out : List ℕ) where
+  sides-count : 17 + n - 17 ≡ n
+  sides-count = omega arith
+
+  sides-length : 17 + n ≤ length out → length (take (17 + n - 17) (drop 17 out)) ≡ n
+  sides-length h = length-take-le (17 + n - 17) (drop 17 out) (omega (arith, length-drop 17 out)) ∙ sides-count
+
+  pub sides-lettered : (M : Matrix) (j : ℕ) (x : Letters) → Lettered M (divisionOf (take (17 + n - 17) (drop 17 out))) j x → Lettered M (divisionOf (take n (drop 17 out))) j x
+  sides-lettered M j x = subst (λ (k : ℕ). Lettered M (divisionOf (take k (drop 17 out))) j x) sides-count
+
+-- what is asked for the letters of column j
+pub letters-fit : (b start first after counts lists : List ℕ) (ready : Ready b start first after counts lists)
+    (j : ℕ) → j < columnsField b → (p : ℕ) → p ≡ getD counts j 0 → (n : ℕ) (out : List ℕ) → n ≡ readsField b → 17 + n ≤ length out
+    → Laid b start first after (listPart b start first after counts lists ready j) p j
+    × ((take p (listPart b start first after counts lists ready j) ≡ activeReads (matrixOf b) j) × (readsField b ≤ length (take (17 + n - 17) (drop 17 out))))
+letters-fit b start first after counts lists ready j l p q n out e h =
+    (cells-laid b start first after counts lists ready j l p q, (list-is b start first after counts lists ready j l p q, omega (arith, sides-length n out h)))
+
+-- a column's letter of a side, and its flips
+abbrev pub letterAt : Matrix → Division → Side → ℕ → ℕ
+letterAt M d s j = bit (haplotypes general M d s j)
+
+abbrev pub flipsAt : Matrix → Division → ℕ → ℕ
+flipsAt M d j = sumTo (count M) (λ q. bit (isFlip (haplotypes general M d (d q) j) (at (read M q) j)))
+
+-- the division that stands in the output
+abbrev pub divisionIn : ℕ → List ℕ → Division
+divisionIn n out = divisionOf (take n (drop 17 out))
+
+-- the letters of the first j columns are written, and their flips counted
+pub record Written (M : Matrix) (n m : ℕ) (old out : List ℕ) (flipped j : ℕ) : Type 0 where
+  pub inside : j ≤ m
+  pub same-length : length out ≡ length old
+  pub letters : out ≡ lettersTo n m (letterAt M (divisionIn n old) false) (letterAt M (divisionIn n old) true) j old
+  pub flips-are : flipped ≡ sumTo j (flipsAt M (divisionIn n old))
+  pub flips-few : flipped ≤ 12 * j
+
+module _ (M : Matrix) (n m : ℕ) (old : List ℕ) (fits : 17 + n + 2 * m ≤ length old) where
+  abbrev d : Division
+  d = divisionIn n old
+
+  pub written-none : Written M n m old old 0 0
+  unfolding sumTo
+  written-none =
+      record {
+        inside = zero-le;
+        same-length = refl;
+        letters = letters-none n m (letterAt M d false) (letterAt M d true) old fits;
+        flips-are = refl;
+        flips-few = zero-le;
+      }
+
+  module _ (out : List ℕ) (flipped j : ℕ) (w : Written M n m old out flipped j) where
+    -- the sides are as they were
+    sides-kept : divisionIn n out ≡ d
+    sides-kept =
+        ap (divisionIn n) (w .letters)
+        ∙ ap divisionOf (letters-sides n m (letterAt M d false) (letterAt M d true) old fits j (w .inside))
+
+    pub written-more : j < m → (x : Letters) → Lettered M (divisionIn n out) j x
+        → Written M n m old (set (set out (17 + n + j) (x .first)) (17 + n + m + j) (x .second)) (flipped + x .flips) (j + 1)
+    written-more l x y =
+        let z : Lettered M d j x = subst (λ (e : Division). Lettered M e j x) sides-kept y in
+        let new : set (set out (17 + n + j) (x .first)) (17 + n + m + j) (x .second) ≡ lettersTo n m (letterAt M d false) (letterAt M d true) (j + 1) old =
+        ap (λ (o : List ℕ). set (set o (17 + n + j) (x .first)) (17 + n + m + j) (x .second)) (w .letters)
+        ∙ ap₂ (λ (a c : ℕ). set (set (lettersTo n m (letterAt M d false) (letterAt M d true) j old) (17 + n + j) a) (17 + n + m + j) c) (z .first-is) (z .second-is)
+        ∙ letters-more n m (letterAt M d false) (letterAt M d true) old fits j l in
+        record {
+          inside = omega arith;
+          same-length = ap length new ∙ letters-length n m (letterAt M d false) (letterAt M d true) old fits (j + 1) (omega arith);
+          letters = new;
+          flips-are = ap₂ (λ (a c : ℕ). a + c) (w .flips-are) (z .flips-are) ∙ sym (leaf-more j (flipsAt M d));
+          flips-few = omega (arith, w .flips-few, z .flips-few);
+        }
+
+    -- all columns done
+    pub written-all : m ≡ M .columns → m ≤ j
+        → (flipped ≡ flips M d (haplotypes general M d))
+        × (out ≡ laid (17 + n + m) (lettersOf M (haplotypes general M d) true) (laid (17 + n) (lettersOf M (haplotypes general M d) false) old))
+    unfolding flips lettersOf
+    written-all e l =
+        let k : j ≡ M .columns = omega (arith, w .inside) in (
+          w .flips-are ∙ ap (λ (i : ℕ). sumTo i (flipsAt M d)) k,
+          w .letters ∙ ap (λ (i : ℕ). lettersTo n m (letterAt M d false) (letterAt M d true) i old) k,
+        )

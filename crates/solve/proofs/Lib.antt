@@ -1,0 +1,9 @@
+pub mod Pass
+pub mod Sizes
+pub mod Columns
+pub mod Back
+pub mod Tabled
+pub mod Answered
+pub mod WayBack
+pub mod Lettering
+pub mod Calls

@@ -1,0 +1,479 @@
+// The solver: the table column by column, the way back, letters and flips, the answer block.
+ghost use mathlib.Core.Path.{_≡_};
+ghost use mathlib.Core.List.{[]};
+ghost use Prim.Native.Nat.{ℕ, _+_, _-_, _*_, _≤_, _<_, min};
+ghost use lib.ListN.{length, getD, take, drop, replicate};
+ghost use Rattle.meaning.specs.Block.{columnsField, readsField, matrixOf};
+ghost use Rattle.meaning.specs.Active.{mostActive, used, entries};
+ghost use Rattle.meaning.specs.Refusals.{blockRefusal};
+ghost use Rattle.pile.specs.Spans.{heightAt};
+ghost use Rattle.meaning.specs.Closing.{activeReads};
+ghost use Rattle.meaning.specs.Charge.{charge};
+ghost use Rattle.meaning.specs.Rule.{sharedReads, ruleColumn, columnOf};
+ghost use Rattle.meaning.specs.Table.{table};
+ghost use Rattle.meaning.specs.Call.{over, laid, call};
+ghost use mathlib.Core.Bool.{true, false};
+ghost use Rattle.meaning.specs.Numbers.{bit};
+ghost use Rattle.meaning.specs.Closing.{closingAt};
+ghost use Rattle.meaning.specs.Division.{firstOver, allZero};
+ghost use Rattle.meaning.specs.Letters.{general, haplotypes, flips};
+ghost use Rattle.meaning.specs.Answer.{sidesOf, divisionOf, lettersOf, answer};
+ghost use Rattle.meaning.specs.Charge.{leastCost};
+ghost use Rattle.meaning.specs.Table.{column};
+ghost use Rattle.meaning.specs.Rule.{entryFor, leastEntry, wayBack};
+ghost use Rattle.cells.specs.Laid.{Lettered};
+ghost use Rattle.solve.specs.Ready.{Ready, Piling, TakenOver, TakenFits, passedOver};
+ghost use Rattle.solve.specs.Outcomes.{resultOf};
+
+fn wide(x: u16) -> usize
+    ensures { λ r. ⌜ r ≡ x ⌝ }
+{
+    x as usize
+}
+
+// How many of column i + 1's active reads are active at column i too.
+fn shared_at(
+    block: &[u8],
+    start: &[u32],
+    first: &[u16],
+    end: &[u16],
+    count: &[u16],
+    lists: &[u16],
+    i: usize,
+) -> usize
+    requires { ⌜ Ready (now block) (now start) (now first) (now end) (now count) (now lists) ⌝ }
+    requires { ⌜ i + 1 < columnsField (now block) ⌝ }
+    ensures { λ r. ⌜ (r ≡ length (sharedReads (matrixOf (now (block .entry))) i)) × (r ≤ 12) ⌝ }
+{
+    let j = i + 1;
+    let a = 12 * j;
+    let e = a + 12;
+    let p = wide(count[j]);
+    fold::shared(&lists[a..e], p, first, j)
+}
+
+// What column i + 1 takes over from column i: the least entry for each index of the reads that both have.
+fn take_over(
+    block: &[u8],
+    start: &[u32],
+    first: &[u16],
+    end: &[u16],
+    count: &[u16],
+    lists: &[u16],
+    i: usize,
+    t: usize,
+    work: &[u32],
+    taken: &mut [u32],
+)
+    requires { ⌜ Ready (now block) (now start) (now first) (now end) (now count) (now lists) ⌝ }
+    requires { ⌜ (i + 1 < columnsField (now block)) × (t ≡ entries (matrixOf (now block))) ⌝ }
+    requires { ⌜ (t ≤ length (now taken)) × (columnsField (now block) * t ≤ length (now work)) ⌝ }
+    ensures { λ _. ⌜ TakenOver (matrixOf (now (block .entry))) i (now (work .entry)) (now (taken .exit)) ⌝ }
+{
+    let s = shared_at(block, start, first, end, count, lists, i);
+    let q = wide(count[i]);
+    let from = i * t;
+    let to = from + column::entries(q);
+    column::carry(&work[from..to], column::entries(s), taken);
+}
+
+// The pass of column j, with what it takes over: all its entries, written through its part of the work room.
+fn pass_at(
+    block: &[u8],
+    start: &[u32],
+    first: &[u16],
+    end: &[u16],
+    count: &[u16],
+    lists: &[u16],
+    j: usize,
+    t: usize,
+    taken: &[u32],
+    work: &mut [u32],
+)
+    requires { ⌜ Ready (now block) (now start) (now first) (now end) (now count) (now lists) ⌝ }
+    requires { ⌜ (j < columnsField (now block)) × (t ≡ entries (matrixOf (now block))) ⌝ }
+    requires { ⌜ columnsField (now block) * t ≤ length (now work) ⌝ }
+    requires { ⌜ TakenFits (matrixOf (now block)) j (now taken) ⌝ }
+    ensures { λ _. ⌜ now (work .exit) ≡ laid (j * t) (passedOver (matrixOf (now (block .entry))) j (now (taken .entry))) (now (work .entry)) ⌝ }
+{
+    let a = 12 * j;
+    let e = a + 12;
+    let list = &lists[a..e];
+    let p = wide(count[j]);
+    let w = cells::weights_at(block, start, first, end, list, p, j);
+    let turn = fold::turns(list, p, first, j);
+    let from = j * t;
+    let to = from + t;
+    column::fill(&w, &turn, p, taken, &mut work[from..to]);
+}
+
+// Column 0 by the rule.
+fn first_column(
+    block: &[u8],
+    start: &[u32],
+    first: &[u16],
+    end: &[u16],
+    count: &[u16],
+    lists: &[u16],
+    t: usize,
+    taken: &mut [u32],
+    work: &mut [u32],
+)
+    requires { ⌜ Ready (now block) (now start) (now first) (now end) (now count) (now lists) ⌝ }
+    requires { ⌜ (0 < columnsField (now block)) × (t ≡ entries (matrixOf (now block))) ⌝ }
+    requires { ⌜ (t ≤ length (now taken)) × (columnsField (now block) * t ≤ length (now work)) ⌝ }
+    ensures { λ _. ⌜ now (work .exit) ≡ laid 0 (ruleColumn charge (matrixOf (now (block .entry))) 0 []) (now (work .entry)) ⌝ }
+{
+    taken[0] = 0;
+    pass_at(block, start, first, end, count, lists, 0, t, taken, work);
+}
+
+// Column i + 1 by the rule, from what column i holds.
+fn next_column(
+    block: &[u8],
+    start: &[u32],
+    first: &[u16],
+    end: &[u16],
+    count: &[u16],
+    lists: &[u16],
+    i: usize,
+    t: usize,
+    taken: &mut [u32],
+    work: &mut [u32],
+)
+    requires { ⌜ Ready (now block) (now start) (now first) (now end) (now count) (now lists) ⌝ }
+    requires { ⌜ (i + 1 < columnsField (now block)) × (t ≡ entries (matrixOf (now block))) ⌝ }
+    requires { ⌜ (t ≤ length (now taken)) × (columnsField (now block) * t ≤ length (now work)) ⌝ }
+    requires { ⌜ ((k : ℕ) → getD (columnOf (matrixOf (now block)) (now work) i) k 0 ≤ 4000000000) ⌝ }
+    ensures { λ _. ⌜ now (work .exit) ≡ laid ((i + 1) * t) (ruleColumn charge (matrixOf (now (block .entry))) (i + 1) (columnOf (matrixOf (now (block .entry))) (now (work .entry)) i)) (now (work .entry)) ⌝ }
+{
+    take_over(block, start, first, end, count, lists, i, t, work, taken);
+    pass_at(
+        block,
+        start,
+        first,
+        end,
+        count,
+        lists,
+        i + 1,
+        t,
+        taken,
+        work,
+    );
+}
+
+// The table, column by column.
+fn fill_table(
+    block: &[u8],
+    start: &[u32],
+    first: &[u16],
+    end: &[u16],
+    count: &[u16],
+    lists: &[u16],
+    m: usize,
+    t: usize,
+    taken: &mut [u32],
+    work: &mut [u32],
+)
+    requires { ⌜ Ready (now block) (now start) (now first) (now end) (now count) (now lists) ⌝ }
+    requires { ⌜ (m ≡ columnsField (now block)) × (t ≡ entries (matrixOf (now block))) ⌝ }
+    requires { ⌜ (t ≤ length (now taken)) × (m * t ≤ length (now work)) ⌝ }
+    ensures { λ _. ⌜ now (work .exit) ≡ over (table charge (matrixOf (now (block .entry)))) (now (work .entry)) ⌝ }
+{
+    first_column(block, start, first, end, count, lists, t, taken, work);
+    let mut i: usize = 0;
+    while i + 1 < m {
+        next_column(block, start, first, end, count, lists, i, t, taken, work);
+        i += 1;
+    }
+}
+
+// One column of the way back: the reads that close at column j get the first sides in closing order that have the least entry.
+fn back_at(
+    block: &[u8],
+    start: &[u32],
+    first: &[u16],
+    end: &[u16],
+    count: &[u16],
+    lists: &[u16],
+    j: usize,
+    t: usize,
+    work: &[u32],
+    sides: &mut [u8],
+)
+    requires { ⌜ Ready (now block) (now start) (now first) (now end) (now count) (now lists) ⌝ }
+    requires { ⌜ (j < columnsField (now block)) × (t ≡ entries (matrixOf (now block))) ⌝ }
+    requires { ⌜ (columnsField (now block) * t ≤ length (now work)) × (readsField (now block) ≤ length (now sides)) ⌝ }
+    requires { ⌜ ((r : ℕ) → getD (now sides) r 0 ≤ 1) ⌝ }
+    ensures { λ _. ⌜ ((r : ℕ) → getD (now (sides .exit)) r 0 ≡ bit (firstOver (closingAt (matrixOf (now (block .entry))) j) (entryFor (activeReads (matrixOf (now (block .entry))) j) (columnOf (matrixOf (now (block .entry))) (now (work .entry)) j)) (divisionOf (now (sides .entry))) r)) ⌝ }
+{
+    let a = 12 * j;
+    let e = a + 12;
+    let list = &lists[a..e];
+    let p = wide(count[j]);
+    let s = back::going_on(list, p, end, j);
+    let from = j * t;
+    let to = from + column::entries(p);
+    back::settle(&work[from..to], list, p, s, sides);
+}
+
+// All reads on side 0.
+fn clear(sides: &mut [u8])
+    ensures { λ _. ⌜ ((r : ℕ) → getD (now (sides .exit)) r 0 ≡ 0) ⌝ }
+{
+    let mut r: usize = 0;
+    while r < sides.len() {
+        sides[r] = 0;
+        r += 1;
+    }
+}
+
+// The way back through all columns, from all reads on side 0.
+fn way_back(
+    block: &[u8],
+    start: &[u32],
+    first: &[u16],
+    end: &[u16],
+    count: &[u16],
+    lists: &[u16],
+    m: usize,
+    t: usize,
+    work: &[u32],
+    sides: &mut [u8],
+)
+    requires { ⌜ Ready (now block) (now start) (now first) (now end) (now count) (now lists) ⌝ }
+    requires { ⌜ (m ≡ columnsField (now block)) × (t ≡ entries (matrixOf (now block))) ⌝ }
+    requires { ⌜ (m * t ≤ length (now work)) × (readsField (now block) ≡ length (now sides)) ⌝ }
+    requires { ⌜ ((r : ℕ) → getD (now sides) r 0 ≡ 0) ⌝ }
+    ensures { λ _. ⌜ now (sides .exit) ≡ sidesOf (matrixOf (now (block .entry))) (wayBack (matrixOf (now (block .entry))) (columnOf (matrixOf (now (block .entry))) (now (work .entry))) m allZero) ⌝ }
+{
+    let mut j = m;
+    while j > 0 {
+        j -= 1;
+        back_at(block, start, first, end, count, lists, j, t, work, sides);
+    }
+}
+
+// The least entry of the last column.
+fn least_last(
+    block: &[u8],
+    start: &[u32],
+    first: &[u16],
+    end: &[u16],
+    count: &[u16],
+    lists: &[u16],
+    m: usize,
+    t: usize,
+    work: &[u32],
+) -> u32
+    requires { ⌜ Ready (now block) (now start) (now first) (now end) (now count) (now lists) ⌝ }
+    requires { ⌜ (m ≡ columnsField (now block)) × (t ≡ entries (matrixOf (now block))) ⌝ }
+    requires { ⌜ m * t ≤ length (now work) ⌝ }
+    ensures { λ r. ⌜ r ≡ leastEntry (activeReads (matrixOf (now (block .entry))) (m - 1)) (columnOf (matrixOf (now (block .entry))) (now (work .entry)) (m - 1)) ⌝ }
+{
+    let j = m - 1;
+    let p = wide(count[j]);
+    let from = j * t;
+    let to = from + column::entries(p);
+    back::least_from(&work[from..to], 0, 1)
+}
+
+// The letters of column j and the flips against them, by the sides that stand in the output.
+fn column_letters(
+    block: &[u8],
+    start: &[u32],
+    first: &[u16],
+    end: &[u16],
+    count: &[u16],
+    lists: &[u16],
+    n: usize,
+    j: usize,
+    out: &[u8],
+) -> cells::Letters
+    requires { ⌜ Ready (now block) (now start) (now first) (now end) (now count) (now lists) ⌝ }
+    requires { ⌜ (j < columnsField (now block)) × (n ≡ readsField (now block)) × (17 + n ≤ length (now out)) ⌝ }
+    ensures { λ r. ⌜ Lettered (matrixOf (now (block .entry))) (divisionOf (take n (drop 17 (now (out .entry))))) j r ⌝ }
+{
+    let a = 12 * j;
+    let e = a + 12;
+    let p = wide(count[j]);
+    let z = 17 + n;
+    cells::letters_at(block, start, first, end, &lists[a..e], p, j, &out[17..z])
+}
+
+// The letters of both haplotypes, behind the sides that stand in the output; and the number of flips.
+fn write_letters(
+    block: &[u8],
+    start: &[u32],
+    first: &[u16],
+    end: &[u16],
+    count: &[u16],
+    lists: &[u16],
+    m: usize,
+    n: usize,
+    out: &mut [u8],
+) -> u32
+    requires { ⌜ Ready (now block) (now start) (now first) (now end) (now count) (now lists) ⌝ }
+    requires { ⌜ (m ≡ columnsField (now block)) × (n ≡ readsField (now block)) × (17 + n + 2 * m ≤ length (now out)) ⌝ }
+    ensures { λ r. ⌜ r ≡ flips (matrixOf (now (block .entry))) (divisionOf (take n (drop 17 (now (out .entry))))) (haplotypes general (matrixOf (now (block .entry))) (divisionOf (take n (drop 17 (now (out .entry)))))) ⌝ }
+    ensures { λ _. ⌜ now (out .exit) ≡ laid (17 + n + m) (lettersOf (matrixOf (now (block .entry))) (haplotypes general (matrixOf (now (block .entry))) (divisionOf (take n (drop 17 (now (out .entry)))))) true) (laid (17 + n) (lettersOf (matrixOf (now (block .entry))) (haplotypes general (matrixOf (now (block .entry))) (divisionOf (take n (drop 17 (now (out .entry)))))) false) (now (out .entry))) ⌝ }
+{
+    let mut flips: u32 = 0;
+    let mut j: usize = 0;
+    while j < m {
+        let x = column_letters(block, start, first, end, count, lists, n, j, out);
+        out[17 + n + j] = x.first;
+        out[17 + n + m + j] = x.second;
+        flips += x.flips;
+        j += 1;
+    }
+    flips
+}
+
+// The sides of all reads, by the way back.
+fn write_sides(
+    block: &[u8],
+    start: &[u32],
+    first: &[u16],
+    end: &[u16],
+    count: &[u16],
+    lists: &[u16],
+    m: usize,
+    t: usize,
+    work: &[u32],
+    sides: &mut [u8],
+)
+    requires { ⌜ Ready (now block) (now start) (now first) (now end) (now count) (now lists) ⌝ }
+    requires { ⌜ (m ≡ columnsField (now block)) × (t ≡ entries (matrixOf (now block))) ⌝ }
+    requires { ⌜ (m * t ≤ length (now work)) × (readsField (now block) ≡ length (now sides)) ⌝ }
+    ensures { λ _. ⌜ now (sides .exit) ≡ sidesOf (matrixOf (now (block .entry))) (wayBack (matrixOf (now (block .entry))) (columnOf (matrixOf (now (block .entry))) (now (work .entry))) m allZero) ⌝ }
+{
+    clear(sides);
+    way_back(block, start, first, end, count, lists, m, t, work, sides);
+}
+
+// The answer block of a table that is filled, and its cost.
+fn write_answer(
+    block: &[u8],
+    start: &[u32],
+    first: &[u16],
+    end: &[u16],
+    count: &[u16],
+    lists: &[u16],
+    m: usize,
+    n: usize,
+    t: usize,
+    work: &[u32],
+    out: &mut [u8],
+) -> u32
+    requires { ⌜ Ready (now block) (now start) (now first) (now end) (now count) (now lists) ⌝ }
+    requires { ⌜ (m ≡ columnsField (now block)) × (n ≡ readsField (now block)) × (t ≡ entries (matrixOf (now block))) ⌝ }
+    requires { ⌜ (m * t ≤ length (now work)) × (17 + n + 2 * m ≤ length (now out)) ⌝ }
+    requires { ⌜ ((j : ℕ) → j < columnsField (now block) → columnOf (matrixOf (now block)) (now work) j ≡ column charge (matrixOf (now block)) j) ⌝ }
+    ensures { λ r. ⌜ r ≡ leastCost charge (matrixOf (now (block .entry))) ⌝ }
+    ensures { λ _. ⌜ now (out .exit) ≡ over (answer general (matrixOf (now (block .entry)))) (now (out .entry)) ⌝ }
+{
+    let e = 17 + n;
+    write_sides(
+        block,
+        start,
+        first,
+        end,
+        count,
+        lists,
+        m,
+        t,
+        work,
+        &mut out[17..e],
+    );
+    let flips = write_letters(block, start, first, end, count, lists, m, n, out);
+    let cost = least_last(block, start, first, end, count, lists, m, t, work);
+    answer::put_head(out, cost, flips, n, m);
+    cost
+}
+
+// What the solver finds in a block that passes the checks 1 to 8: 9 with the column, 10 or 11 with the size needed, or the cost.
+pub enum Outcome {
+    Crowded(u32),
+    Work(u32),
+    Output(u32),
+    Cost(u32),
+}
+
+// The checks 10 and 11, then the table and the answer. `most` is A.
+fn sized(
+    block: &[u8],
+    start: &[u32],
+    first: &[u16],
+    end: &[u16],
+    count: &mut [u16],
+    lists: &mut [u16],
+    m: usize,
+    n: usize,
+    most: usize,
+    taken: &mut [u32],
+    work: &mut [u32],
+    out: &mut [u8],
+) -> Outcome
+    requires { ⌜ Piling (now block) (now start) (now first) (now end) (now count) (now lists) m n ⌝ }
+    requires { ⌜ (most ≡ mostActive (matrixOf (now block))) × (most ≤ 12) × (used most ≤ length (now taken)) ⌝ }
+    requires { ⌜ ((j : ℕ) → j < m → heightAt (now first) (now end) n j ≤ 12) ⌝ }
+    ensures { λ r. ⌜ resultOf r (now (work .exit)) (now (out .exit)) ≡ call (now (block .entry)) (now (work .entry)) (now (out .entry)) ⌝ }
+{
+    let t = column::entries(most);
+    let need = m * t;
+    if work.len() < need {
+        return Outcome::Work(need as u32);
+    }
+    let size = 17 + n + 2 * m;
+    if out.len() < size {
+        return Outcome::Output(size as u32);
+    }
+    pile::lists(first, end, n, m, count, lists);
+    fill_table(block, start, first, end, count, lists, m, t, taken, work);
+    let cost = write_answer(block, start, first, end, count, lists, m, n, t, work, out);
+    Outcome::Cost(cost)
+}
+
+// Solves a block that passes the checks 1 to 8. The arrays are room to work in: three for the reads, two for the columns, one for what
+// a column takes over.
+pub fn solve(
+    block: &[u8],
+    m: usize,
+    n: usize,
+    work: &mut [u32],
+    out: &mut [u8],
+    start: &mut [u32],
+    first: &mut [u16],
+    end: &mut [u16],
+    count: &mut [u16],
+    lists: &mut [u16],
+    taken: &mut [u32],
+) -> Outcome
+    requires { ⌜ (blockRefusal 1 (now block) .number ≡ 0) × (m ≡ columnsField (now block)) × (n ≡ readsField (now block)) ⌝ }
+    requires { ⌜ (n ≤ length (now start)) × (n ≤ length (now first)) × (n ≤ length (now end)) ⌝ }
+    requires { ⌜ (m ≤ length (now count)) × (12 * m ≤ length (now lists)) × (used (min n 12) ≤ length (now taken)) ⌝ }
+    requires { ⌜ now count ≡ replicate (length (now count)) 0 ⌝ }
+    ensures { λ r. ⌜ resultOf r (now (work .exit)) (now (out .exit)) ≡ call (now (block .entry)) (now (work .entry)) (now (out .entry)) ⌝ }
+{
+    block::places(block, n, start, first, end);
+    pile::heights(first, end, n, count);
+    let h = pile::tallest(count, m);
+    match h {
+        pile::Pile::Crowded(j) => Outcome::Crowded(j as u32),
+        pile::Pile::Most(most) => sized(
+            block,
+            start,
+            first,
+            end,
+            count,
+            lists,
+            m,
+            n,
+            most,
+            taken,
+            work,
+            out,
+        ),
+    }
+}

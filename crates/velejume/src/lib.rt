@@ -1,0 +1,143 @@
+// The public calls. None asks anything of its caller: every block of bytes, with rooms of every size, gets an answer or a refusal.
+ghost use mathlib.Core.Path.{_≡_};
+ghost use Prim.Native.Nat.{_≤_};
+ghost use Rattle.meaning.specs.Block.{columnsField, readsField};
+ghost use Rattle.meaning.specs.Refusals.{blockRefusal};
+ghost use Rattle.meaning.specs.Call.{call};
+ghost use Rattle.solve.specs.Outcomes.{outcomeNumber, outcomeSecond, resultOf};
+
+// The number that a call returns, and its second number.
+pub struct Numbers {
+    pub number: u32,
+    pub second: u32,
+}
+
+// The two numbers of what the solver finds.
+fn given(o: solve::Outcome) -> Numbers
+    ensures { λ r. ⌜ (r .number ≡ outcomeNumber o) × (r .second ≡ outcomeSecond o) ⌝ }
+{
+    match o {
+        solve::Outcome::Crowded(j) => Numbers {
+            number: 9,
+            second: j,
+        },
+        solve::Outcome::Work(need) => Numbers {
+            number: 10,
+            second: need,
+        },
+        solve::Outcome::Output(need) => Numbers {
+            number: 11,
+            second: need,
+        },
+        solve::Outcome::Cost(cost) => Numbers {
+            number: 0,
+            second: cost,
+        },
+    }
+}
+
+// Room to work in for a block of at most 32 columns and 7 reads: setting up more would take longer than solving it.
+fn small(block: &[u8], m: usize, n: usize, work: &mut [u32], out: &mut [u8]) -> solve::Outcome
+    requires { ⌜ (blockRefusal 1 (now block) .number ≡ 0) × (m ≡ columnsField (now block)) × (n ≡ readsField (now block)) ⌝ }
+    requires { ⌜ (m ≤ 32) × (n ≤ 7) ⌝ }
+    ensures { λ r. ⌜ resultOf r (now (work .exit)) (now (out .exit)) ≡ call (now (block .entry)) (now (work .entry)) (now (out .entry)) ⌝ }
+{
+    let mut start = [0u32; 7];
+    let mut first = [0u16; 7];
+    let mut end = [0u16; 7];
+    let mut count = [0u16; 32];
+    let mut lists = [0u16; 384];
+    let mut taken = [0u32; 64];
+    solve::solve(
+        block,
+        m,
+        n,
+        work,
+        out,
+        &mut start,
+        &mut first,
+        &mut end,
+        &mut count,
+        &mut lists,
+        &mut taken,
+    )
+}
+
+// Room to work in for every block.
+fn large(block: &[u8], m: usize, n: usize, work: &mut [u32], out: &mut [u8]) -> solve::Outcome
+    requires { ⌜ (blockRefusal 1 (now block) .number ≡ 0) × (m ≡ columnsField (now block)) × (n ≡ readsField (now block)) ⌝ }
+    requires { ⌜ (m ≤ 1024) × (n ≤ 1024) ⌝ }
+    ensures { λ r. ⌜ resultOf r (now (work .exit)) (now (out .exit)) ≡ call (now (block .entry)) (now (work .entry)) (now (out .entry)) ⌝ }
+{
+    let mut start = [0u32; 1024];
+    let mut first = [0u16; 1024];
+    let mut end = [0u16; 1024];
+    let mut count = [0u16; 1024];
+    let mut lists = [0u16; 12288];
+    let mut taken = [0u32; 2048];
+    solve::solve(
+        block,
+        m,
+        n,
+        work,
+        out,
+        &mut start,
+        &mut first,
+        &mut end,
+        &mut count,
+        &mut lists,
+        &mut taken,
+    )
+}
+
+// The solver with as much room as the block needs.
+fn solved(block: &[u8], m: usize, n: usize, work: &mut [u32], out: &mut [u8]) -> solve::Outcome
+    requires { ⌜ (blockRefusal 1 (now block) .number ≡ 0) × (m ≡ columnsField (now block)) × (n ≡ readsField (now block)) ⌝ }
+    requires { ⌜ (m ≤ 1024) × (n ≤ 1024) ⌝ }
+    ensures { λ r. ⌜ resultOf r (now (work .exit)) (now (out .exit)) ≡ call (now (block .entry)) (now (work .entry)) (now (out .entry)) ⌝ }
+{
+    if m <= 32 {
+        if n <= 7 {
+            return small(block, m, n, work, out);
+        }
+    }
+    large(block, m, n, work, out)
+}
+
+// Phases a fragment block: the least cost, the table in the work room and the answer block in the output, or a refusal that leaves both as they were.
+pub fn phase(block: &[u8], work: &mut [u32], out: &mut [u8]) -> Numbers
+    ensures { λ r. ⌜ r .number ≡ call (now (block .entry)) (now (work .entry)) (now (out .entry)) .number ⌝ }
+    ensures { λ r. ⌜ r .second ≡ call (now (block .entry)) (now (work .entry)) (now (out .entry)) .second ⌝ }
+    ensures { λ r. ⌜ now (work .exit) ≡ call (now (block .entry)) (now (work .entry)) (now (out .entry)) .work ⌝ }
+    ensures { λ r. ⌜ now (out .exit) ≡ call (now (block .entry)) (now (work .entry)) (now (out .entry)) .out ⌝ }
+{
+    let v = block::checked(block);
+    match v {
+        block::Verdict::Refused { number, second } => Numbers {
+            number: number,
+            second: second,
+        },
+        block::Verdict::Passed { m, n } => {
+            let o = solved(block, m, n, work, out);
+            given(o)
+        }
+    }
+}
+
+// The same for C: the number is returned, the second number goes to where `second` points.
+#[no_mangle]
+pub extern "C" fn velejume_phase(
+    block: &[u8],
+    work: &mut [u32],
+    out: &mut [u8],
+    second: &mut u32,
+) -> u32
+    ensures { λ r. ⌜ r ≡ call (now (block .entry)) (now (work .entry)) (now (out .entry)) .number ⌝ }
+    ensures { λ _. ⌜ now (second .exit) ≡ call (now (block .entry)) (now (work .entry)) (now (out .entry)) .second ⌝ }
+    ensures { λ _. ⌜ now (work .exit) ≡ call (now (block .entry)) (now (work .entry)) (now (out .entry)) .work ⌝ }
+    ensures { λ _. ⌜ now (out .exit) ≡ call (now (block .entry)) (now (work .entry)) (now (out .entry)) .out ⌝ }
+{
+    let r = phase(block, work, out);
+    *second = r.second;
+    r.number
+}

@@ -1,0 +1,56 @@
+use mathlib.Core.Path.{sym}
+use native.Mathlib.Nat.{le-trans, le-of-eq}
+use lib.Seq.{length-take-le}
+use borrow.Author.Needs.{needs}
+use Rattle.phase.proofs.main.Statement.{statement}
+use Rattle.phase.proofs.main.Tie as tie
+use Rattle.phase.proofs.main.Reads as reads
+use Rattle.phase.proofs.main.Lts as lts
+use Rattle.io.proofs.read_full.Reads as read-full-reads
+use Rattle.io.proofs.write_all.Reads as write-all-reads
+use Rattle.phase.proofs.respond.Reads as respond-reads
+
+slice-aggregate-read-full : tie.Need-slice-aggregate-read-full
+slice-aggregate-read-full c = search needs
+
+read-full-requires : tie.Need-read-full-requires
+read-full-requires c κs = search needs
+
+array-share-prefix-input : tie.Need-array-share-prefix-input
+array-share-prefix-input c = search needs
+
+slice-aggregate-respond : tie.Need-slice-aggregate-respond
+slice-aggregate-respond c = search needs
+
+slice-aggregate-respond-2 : tie.Need-slice-aggregate-respond-2
+slice-aggregate-respond-2 c = search needs
+
+respond-requires : tie.Need-respond-requires
+respond-requires c κs = search needs
+
+array-share-prefix-page : tie.Need-array-share-prefix-page
+array-share-prefix-page c = search needs
+
+slice-aggregate-write-all : tie.Need-slice-aggregate-write-all
+slice-aggregate-write-all c = sym (length-take-le _ _ (le-trans (c .before .before .respond .ensures .0 .1) (le-of-eq (sym (c .before .before .respond .kept .1 .0)))))
+
+write-all-requires : tie.Need-write-all-requires
+write-all-requires c κs = search needs
+
+returns : tie.Need-returns
+returns c = search needs
+
+pub main-spec : {M : Type 1} → statement M
+main-spec =
+    tie.close
+    (tie.spec
+    slice-aggregate-read-full
+    read-full-requires
+    array-share-prefix-input
+    slice-aggregate-respond
+    slice-aggregate-respond-2
+    respond-requires
+    array-share-prefix-page
+    slice-aggregate-write-all
+    write-all-requires
+    returns)

@@ -30,8 +30,8 @@ BEGIN {
 !begun && /^$/ { begun = 1; next }
 begun {
   line[++k] = $0
-  if (k < 5) next
-  k = 0
+  k %= 5
+  if (k != 4) next
   block = line[2]
   m = value(substr(block, 11, 4)); n = value(substr(block, 15, 4))
   split(line[3], word, /[ |]+/)

@@ -1,0 +1,159 @@
+/* Both sides of every limit, through the C name: numbers, what both rooms hold, and a guard behind each room. The largest
+   block, 1,024 columns under 12 reads, is held against plain search through its 2,048 divisions: every table entry too. */
+typedef unsigned char u8;
+typedef unsigned int u32;
+typedef unsigned long usize;
+
+u32 velejume_phase(const u8 *block, usize block_len, u32 *work, usize work_len, u8 *out, usize out_len, u32 *second);
+int printf(const char *format, ...);
+
+enum { GUARD = 16, MOST_WORK = 1024 * 2048, MOST_OUT = 17 + 1024 + 2048, MOST_BLOCK = 400000 };
+
+static u8 block[MOST_BLOCK];
+static usize size;
+static u32 work[MOST_WORK + GUARD];
+static u8 out[MOST_OUT + GUARD];
+static int passed, failed;
+
+static void expect(int ok, const char *what) {
+  if (ok) {
+    passed++;
+  } else {
+    failed++;
+    printf("limits: %s\n", what);
+  }
+}
+
+static void put16(usize at, u32 x) {
+  block[at] = (u8)(x >> 8);
+  block[at + 1] = (u8)x;
+}
+
+static void begin(u32 m, u32 n) {
+  block[0] = 1;
+  put16(5, m);
+  put16(7, n);
+  size = 9;
+}
+
+/* a read of c cells from a column on: letters by a small generator, holes inside where asked */
+static u32 seed = 1;
+static u32 next(void) {
+  seed = seed * 1103515245u + 12345u;
+  return seed >> 16;
+}
+
+static void read_of(u32 first, u32 c, int gap) {
+  put16(size, 2 + 2 * c);
+  put16(size + 2, first);
+  size += 4;
+  for (u32 i = 0; i < c; i++) {
+    int hole = gap && i > 0 && i + 1 < c;
+    block[size++] = hole ? 2 : (u8)(next() & 1);
+    block[size++] = hole ? 0 : (u8)(next() % 256);
+  }
+}
+
+static void finish(void) {
+  u32 length = (u32)(size - 5);
+  block[1] = (u8)(length >> 24);
+  block[2] = (u8)(length >> 16);
+  block[3] = (u8)(length >> 8);
+  block[4] = (u8)length;
+}
+
+/* one call with rooms of these sizes: the numbers, and that a refusal and the guards leave everything as it was */
+static void call(usize work_len, usize out_len, u32 number, u32 second, const char *what) {
+  for (usize i = 0; i < work_len + GUARD; i++) work[i] = 7777;
+  for (usize i = 0; i < out_len + GUARD; i++) out[i] = 77;
+  u32 got = 99999;
+  u32 answered = velejume_phase(block, size, work, work_len, out, out_len, &got);
+  int kept = 1;
+  for (usize i = number ? 0 : work_len; i < work_len + GUARD; i++) kept &= work[i] == 7777;
+  for (usize i = number ? 0 : out_len; i < out_len + GUARD; i++) kept &= out[i] == 77;
+  expect(answered == number, what);
+  if (number) expect(got == second, what);
+  expect(kept, what);
+}
+
+static u32 lesser(u32 a, u32 b) { return a < b ? a : b; }
+
+/* 12 reads over all columns: entry k of column j is the sum of charges to j of the one division that k stands for */
+static void largest(void) {
+  static u32 sums[2048];
+  u32 m = 1024, reads = 12;
+  begin(m, reads);
+  for (u32 r = 0; r < reads; r++) read_of(0, m, 0);
+  finish();
+  call(MOST_WORK - 1, MOST_OUT, 10, MOST_WORK, "work one entry short");
+  call(MOST_WORK, 17 + reads + 2 * m - 1, 11, 17 + reads + 2 * m, "output one byte short");
+  call(MOST_WORK, 17 + reads + 2 * m, 0, 0, "the largest block");
+  int right = 1;
+  for (u32 j = 0; j < m; j++)
+    for (u32 k = 0; k < 2048; k++) {
+      u32 w[2][2] = {{0, 0}, {0, 0}};
+      for (u32 r = 0; r < reads; r++) {
+        usize cell = 9 + r * (4 + 2 * m) + 4 + 2 * j;
+        w[r ? k >> (r - 1) & 1 : 0][block[cell]] += block[cell + 1];
+      }
+      sums[k] += lesser(w[0][0], w[0][1]) + lesser(w[1][0], w[1][1]);
+      right &= work[j * 2048 + k] == sums[k];
+    }
+  expect(right, "every entry of the largest table");
+  /* reads with one last column come by number: read 1 is compared first, the lowest digit */
+  u32 best = 0, least = sums[0];
+  for (u32 k = 1; k < 2048; k++) {
+    int before = 0;
+    for (u32 d = 0; d < 11 && !before; d++)
+      if ((k >> d & 1) != (best >> d & 1)) {
+        before = (k >> d & 1) ? -1 : 1;
+      }
+    if (sums[k] < least || (sums[k] == least && before == 1)) {
+      best = k;
+      least = sums[k];
+    }
+  }
+  u32 cost = (u32)out[5] << 24 | (u32)out[6] << 16 | (u32)out[7] << 8 | out[8];
+  expect(cost == least, "the largest cost");
+  int sides = out[17] == 0;
+  for (u32 r = 1; r < reads; r++) sides &= out[17 + r] == (best >> (r - 1) & 1);
+  expect(sides, "the largest sides");
+}
+
+int main(void) {
+  usize ample = 17 + 1024 + 2048;
+  begin(1024, 0), finish(), call(1024, ample, 0, 0, "m 1,024");
+  begin(1025, 0), finish(), call(1025, ample, 4, 0, "m 1,025");
+  begin(0, 0), finish(), call(1, ample, 4, 0, "m 0");
+  begin(1, 1024);
+  for (int r = 0; r < 1024; r++) read_of(0, 0, 0);
+  finish(), call(1, ample, 0, 0, "n 1,024");
+  begin(1, 1025);
+  for (int r = 0; r < 1025; r++) read_of(0, 0, 0);
+  finish(), call(1, ample, 4, 0, "n 1,025");
+  begin(3, 12);
+  for (int r = 0; r < 11; r++) read_of(1, 1, 0);
+  read_of(0, 3, 1), finish(), call(3 * 2048, ample, 0, 0, "12 active, one by its gap");
+  begin(3, 13);
+  for (int r = 0; r < 12; r++) read_of(1, 1, 0);
+  read_of(0, 3, 1), finish(), call(3 * 4096, ample, 9, 1, "13 active, the thirteenth by its gap");
+  begin(128, 8);
+  for (int r = 0; r < 8; r++) read_of(0, 128, 0);
+  finish(), call(16384, ample, 0, 0, "128 columns under 8 reads in 16,384 entries");
+  begin(129, 8);
+  for (int r = 0; r < 8; r++) read_of(0, 129, 0);
+  finish(), call(16384, ample, 10, 16512, "129 columns under 8 reads in 16,384 entries");
+  begin(1, 0), finish();
+  size = 8, call(1, ample, 1, 0, "8 bytes");
+  begin(1, 0), finish(), call(1, ample, 0, 0, "9 bytes");
+  begin(5, 1), read_of(4, 1, 0), finish(), call(5, ample, 0, 0, "a cell at column m - 1");
+  begin(5, 1), read_of(5, 1, 0), finish(), call(5, ample, 6, 0, "a cell at column m");
+  begin(1, 1), read_of(0, 1, 0), finish();
+  call(0, ample, 10, 1, "no work room");
+  call(1, 0, 11, 20, "no output");
+  call(1, 19, 11, 20, "output one byte short of 20");
+  call(1, 20, 0, 0, "output of just 20 bytes");
+  largest();
+  printf("%d passed, %d failed\n", passed, failed);
+  return failed != 0;
+}

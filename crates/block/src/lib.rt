@@ -46,7 +46,7 @@ fn wide(b: u8) -> usize
 }
 
 // The big-endian number of the two bytes from `at` on.
-fn word_at(b: &[u8], at: usize) -> usize
+pub fn word_at(b: &[u8], at: usize) -> usize
     requires { ⌜ at + 2 ≤ length (now b) ⌝ }
     ensures { λ r. ⌜ (r ≡ word (now (b .entry)) at) × (r < 65536) ⌝ }
 {
@@ -54,7 +54,7 @@ fn word_at(b: &[u8], at: usize) -> usize
 }
 
 // The big-endian number of the four bytes from `at` on.
-fn long_at(b: &[u8], at: usize) -> usize
+pub fn long_at(b: &[u8], at: usize) -> usize
     requires { ⌜ at + 4 ≤ length (now b) ⌝ }
     ensures { λ r. ⌜ (r ≡ long (now (b .entry)) at) × (r < 4294967296) ⌝ }
 {

@@ -1,5 +1,4 @@
 pub mod Pieces
 pub mod Decimals
 pub mod Lines
-pub mod Fields
 pub mod Accepted

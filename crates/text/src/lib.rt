@@ -3,31 +3,9 @@ ghost use mathlib.Core.Path.{_≡_};
 ghost use mathlib.Core.List.{[], _∷_, _++_, map};
 ghost use Prim.Native.Nat.{_+_, _≤_, _<_};
 ghost use lib.ListN.{length, drop};
-ghost use Rattle.meaning.specs.Numbers.{word, long};
+ghost use Rattle.meaning.specs.Numbers.{word};
 ghost use Rattle.text.specs.Text.{decimal, mark, line, sidesWord, hap1Word, hap2Word, sidesText, answerText, refusalText, textOf};
 ghost use Rattle.text.specs.Put.{Put, Whole};
-
-fn wide(b: u8) -> u32
-    ensures { λ r. ⌜ (r ≡ b) × (r < 256) ⌝ }
-{
-    b as u32
-}
-
-// The big-endian number of the two bytes from `at` on.
-fn word_at(b: &[u8], at: usize) -> u32
-    requires { ⌜ at + 2 ≤ length (now b) ⌝ }
-    ensures { λ r. ⌜ (r ≡ word (now (b .entry)) at) × (r < 65536) ⌝ }
-{
-    wide(b[at]) * 256 + wide(b[at + 1])
-}
-
-// The big-endian number of the four bytes from `at` on.
-fn long_at(b: &[u8], at: usize) -> u32
-    requires { ⌜ at + 4 ≤ length (now b) ⌝ }
-    ensures { λ r. ⌜ r ≡ long (now (b .entry)) at ⌝ }
-{
-    word_at(b, at) * 65536 + word_at(b, at + 2)
-}
 
 // The character of a digit.
 fn digit(x: u32) -> u8
@@ -139,13 +117,13 @@ fn put_answer(text: &mut [u8], answer: &[u8]) -> usize
     requires { ⌜ 4096 ≤ length (now text) ⌝ }
     ensures { λ r. ⌜ Put (now (text .entry)) 0 (answerText (now (answer .entry))) (now (text .exit)) r ⌝ }
 {
-    let n = word_at(answer, 13) as usize;
-    let m = word_at(answer, 15) as usize;
+    let n = block::word_at(answer, 13);
+    let m = block::word_at(answer, 15);
     let first = 17 + n;
     let second = first + m;
     let end = second + m;
-    let a = put_number_line(text, 0, b"cost ", long_at(answer, 5));
-    let b = put_number_line(text, a, b"flips ", long_at(answer, 9));
+    let a = put_number_line(text, 0, b"cost ", block::long_at(answer, 5) as u32);
+    let b = put_number_line(text, a, b"flips ", block::long_at(answer, 9) as u32);
     let c = put_sides_line(text, b, &answer[17..first]);
     put_letters(text, c, &answer[first..second], &answer[second..end])
 }

@@ -9,14 +9,8 @@ use Rattle.text.proofs.put_answer.Tie as tie
 word-at-requires : tie.Need-word-at-requires
 word-at-requires c κs = search needs
 
-cast-n : tie.Need-cast-n
-cast-n c = search needs
-
 word-at-requires-2 : tie.Need-word-at-requires-2
 word-at-requires-2 c κs = search needs
-
-cast-m : tie.Need-cast-m
-cast-m c = search needs
 
 add-first : tie.Need-add-first
 add-first c = search needs
@@ -33,6 +27,9 @@ slice-aggregate-put-number-line c = search needs
 long-at-requires : tie.Need-long-at-requires
 long-at-requires c κs = search needs
 
+cast-put-number-line : tie.Need-cast-put-number-line
+cast-put-number-line c = search needs
+
 put-number-line-requires : tie.Need-put-number-line-requires
 put-number-line-requires c κs = search needs
 
@@ -41,6 +38,9 @@ slice-aggregate-put-number-line-2 c = search needs
 
 long-at-requires-2 : tie.Need-long-at-requires-2
 long-at-requires-2 c κs = search needs
+
+cast-put-number-line-2 : tie.Need-cast-put-number-line-2
+cast-put-number-line-2 c = search needs
 
 put-number-line-requires-2 : tie.Need-put-number-line-requires-2
 put-number-line-requires-2 c κs = search needs
@@ -89,24 +89,24 @@ returns c =
     let w = e .before .before .before .before in
     let h = joined (e .put-number-line .ensures .0) (joined (f .put-number-line2 .ensures .0) (joined (s .put-sides-line .ensures .0) (c .before .before .put-letters .ensures))) in
     let b = w .before .before .before .before .args .answer .now in
-    put-as h (answerText b) (answer-is b _ _ _ _ (w .before .word-at .ensures .0) (w .word-at2 .ensures .0) (e .before .long-at .ensures) (f .before .long-at2 .ensures))
+    put-as h (answerText b) (answer-is b _ _ _ _ (w .before .word-at .ensures .0) (w .word-at2 .ensures .0) (e .before .long-at .ensures .0) (f .before .long-at2 .ensures .0))
 
 pub put-answer-spec : {M : Type 1} → statement M
 put-answer-spec =
     tie.close
     (tie.spec
     word-at-requires
-    cast-n
     word-at-requires-2
-    cast-m
     add-first
     add-second
     add-end
     slice-aggregate-put-number-line
     long-at-requires
+    cast-put-number-line
     put-number-line-requires
     slice-aggregate-put-number-line-2
     long-at-requires-2
+    cast-put-number-line-2
     put-number-line-requires-2
     sub-put-sides-line
     part-put-sides-line-start

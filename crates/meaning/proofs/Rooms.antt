@@ -15,7 +15,6 @@ use Rattle.meaning.specs.Active.{activeCount, mostActive, used, entries}
 use Rattle.meaning.specs.Closing.{activeReads}
 use Rattle.meaning.specs.Charge.{Sums}
 use Rattle.meaning.specs.Table.{entry, column, columnsTo, table}
-use Rattle.meaning.specs.Refusals.{workSize}
 use Rattle.meaning.specs.Call.{over, laid}
 use Rattle.meaning.specs.Rule.{columnOf}
 use Rattle.meaning.proofs.Totals.{max-above}
@@ -68,10 +67,6 @@ module _ (C : Sums → ℕ) (M : Matrix) where
       rest : (m j : ℕ) → j < m → m ≡ suc j + (m - suc j)
       rest m j h = omega arith
 
-  pub length-table : length (table C M) ≡ workSize M
-  unfolding table workSize
-  length-table = length-columns (M .columns)
-
 -- column j of the table, wherever it stands in front of a room
 module _ (C : Sums → ℕ) (M : Matrix) where
   pub columns-part : (j i : ℕ) (rest : List ℕ) → columnOf M (columnsTo C M (suc j + i) ++ rest) j ≡ column C M j
@@ -90,15 +85,6 @@ module _ (C : Sums → ℕ) (M : Matrix) where
     where
       further : (m j : ℕ) → j < m → m ≡ suc j + (m - suc j)
       further m j h = omega arith
-
--- one part more: what stands before it stays, what stands after it stays
-pub over-more : (xs ys w : List ℕ) → over (xs ++ ys) w ≡ xs ++ (ys ++ drop (length ys) (drop (length xs) w))
-over-more xs ys w =
-    append-assoc xs ys (drop (length (xs ++ ys)) w)
-    ∙ ap (λ (l : List ℕ). xs ++ (ys ++ l)) (ap (λ (n : ℕ). drop n w) (length-append xs ys) ∙ sym (drop-drop (length ys) (length xs) w))
-
-pub length-over : (xs w : List ℕ) → length xs ≤ length w → length (over xs w) ≡ length w
-length-over xs w h = length-append xs (drop (length xs) w) ∙ omega (arith, length-drop (length xs) w)
 
 -- one part laid behind another is both laid at once
 module _ (at : ℕ) (a b old : List ℕ) (fits : at + length a ≤ length old) where

@@ -1,19 +1,18 @@
--- The four sums: they go by the active reads, exchange with the sides, and move with one read.
+-- The four sums: they go by the active reads, and exchange with the sides.
 use Prim.Native.Nat.{ℕ, _+_, _-_, _<_}
-use borrow.Author.Tests.{ltb-false, leb-true, eq-eqb, ne-eqb}
+use borrow.Author.Tests.{ltb-false, leb-true}
 use lib.Dec.{leb, ltb}
 use lib.ListN.{getD, List·getD-eq-default}
 use mathlib.Core.Bool.{Bool, true, false, cond, not, _&&_, Bool·beq}
-use mathlib.Core.Logic.{_≢_}
 use mathlib.Core.Path.{_≡_, refl, sym, ap, _∙_, fun-ext}
 use native.Mathlib.Omega.{arith}
 use Rattle.meaning.specs.Numbers.{sumTo}
 use Rattle.meaning.specs.Block.{Read, Matrix, hole}
 use Rattle.meaning.specs.Active.{count, read, end, active, at}
-use Rattle.meaning.specs.Division.{Side, Division, put}
+use Rattle.meaning.specs.Division.{Side, Division}
 use Rattle.meaning.specs.Charge.{Letter, Sums, against, W, costTo}
 use Rattle.meaning.specs.Rule.{other}
-use Rattle.meaning.proofs.Totals.{sum-ext, sum-add, sum-change}
+use Rattle.meaning.proofs.Totals.{sum-ext, sum-add}
 
 -- where a read is not active it has a hole
 pub at-idle : (r : Read) (j : ℕ) → active r j ≡ false → at r j ≡ hole
@@ -80,48 +79,3 @@ column-sides M d j h = sum-ext (count M) (λ r lt. go r (d r)) ∙ sum-add (coun
         ≡ cond (Bool·beq s false) (against (h false) (at (read M r) j)) 0 + cond (Bool·beq s true) (against (h true) (at (read M r) j)) 0
     go r false = omega arith
     go r true = omega arith
-
--- read r put on side s, where it was on the other: its weight moves
-module _ (M : Matrix) (d : Division) (j r : ℕ) (s : Side) (l : Letter) (below : r < count M) (was : d r ≡ not s) where
-  share : Division → Side → ℕ → ℕ
-  share e t q = cond (Bool·beq (e q) t) (against l (at (read M q) j)) 0
-
-  same : (t : Side) (i : ℕ) → i ≢ r → share (put r s d) t i ≡ share d t i
-  unfolding share
-  same t i ne = ap (λ (b : Bool). cond (Bool·beq (cond b s (d i)) t) (against l (at (read M i) j)) 0) (ne-eqb i r ne)
-
-  here : (t : Side) → share (put r s d) t r ≡ cond (Bool·beq s t) (against l (at (read M r) j)) 0
-  unfolding share
-  here t = ap (λ (b : Bool). cond (Bool·beq (cond b s (d r)) t) (against l (at (read M r) j)) 0) (eq-eqb r r refl)
-
-  there : (t : Side) → share d t r ≡ cond (Bool·beq (not s) t) (against l (at (read M r) j)) 0
-  unfolding share
-  there t = ap (λ (b : Bool). cond (Bool·beq b t) (against l (at (read M r) j)) 0) was
-
-  beq-same : (t : Bool) → Bool·beq t t ≡ true
-  beq-same true = refl
-  beq-same false = refl
-
-  beq-left : (t : Bool) → Bool·beq (not t) t ≡ false
-  beq-left true = refl
-  beq-left false = refl
-
-  beq-right : (t : Bool) → Bool·beq t (not t) ≡ false
-  beq-right true = refl
-  beq-right false = refl
-
-  pub move-to : W M (put r s d) j s l ≡ W M d j s l + against l (at (read M r) j)
-  unfolding W share
-  move-to =
-      let a : ℕ = against l (at (read M r) j) in
-      let p : share (put r s d) s r ≡ a = here s ∙ ap (λ (b : Bool). cond b a 0) (beq-same s) in
-      let q : share d s r ≡ 0 = there s ∙ ap (λ (b : Bool). cond b a 0) (beq-left s) in
-      omega (arith, sum-change (count M) r {f = share (put r s d) s} {g = share d s} below (same s), p, q)
-
-  pub move-from : W M (put r s d) j (not s) l + against l (at (read M r) j) ≡ W M d j (not s) l
-  unfolding W share
-  move-from =
-      let a : ℕ = against l (at (read M r) j) in
-      let p : share (put r s d) (not s) r ≡ 0 = here (not s) ∙ ap (λ (b : Bool). cond b a 0) (beq-right s) in
-      let q : share d (not s) r ≡ a = there (not s) ∙ ap (λ (b : Bool). cond b a 0) (beq-same (not s)) in
-      omega (arith, sum-change (count M) r {f = share (put r s d) (not s)} {g = share d (not s)} below (same (not s)), p, q)

@@ -47,7 +47,7 @@ add-out-5 : tie.Need-add-out-5 Inv-loop μ-loop
 add-out-5 c = search needs
 
 slice-write-out-2 : tie.Need-slice-write-out-2 Inv-loop μ-loop
-slice-write-out-2 c = omega (arith, length-set (c .before .before .before .loop .out) (17 + c .before .before .before .before .before .before .before .before .before .before .before .args .n + c .before .before .before .loop .j) (c .column-letters .result .first))
+slice-write-out-2 c = simp length-set (omega arith)
 
 add-flips : tie.Need-add-flips Inv-loop μ-loop
 add-flips c = omega (arith, few-columns (c .before .before .before .before .before .before .before .before .before .before .before .before), c .before .column-letters .ensures .flips-few)

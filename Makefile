@@ -1,7 +1,14 @@
-# make test: the gate. make run: proves, builds and phases the shipped example; make run BLOCK=file another block.
-.PHONY: test run
+# make run: proves, builds and phases the shipped example; make run BLOCK=file another block. make test: the gate.
+# make lib: the static library. make install PREFIX=dir: program, library, header, pkg-config file and manual page.
+# make bench: the proved call beside an unproved solver. make soak SEED=n COUNT=n: differential tests, as many as you like.
+.PHONY: test run lib install bench soak
 
 BLOCK ?= examples/p1.block
+PREFIX ?= /usr/local
+SEED ?= 1
+COUNT ?= 100000
+
+sources := $(shell find crates -path '*/must-fail' -prune -o -type f -print) crates.txt
 
 test:
 	@bash .ci/run
@@ -9,8 +16,28 @@ test:
 run: target/bin/phase
 	@scripts/run target/bin/phase < '$(BLOCK)'
 
-target/bin/phase: $(shell find crates -path '*/must-fail' -prune -o -type f -print) crates.txt
+lib: target/staticlib/libvelejume.a
+
+install: target/bin/phase target/staticlib/libvelejume.a
+	@install -D -m 755 target/bin/phase '$(DESTDIR)$(PREFIX)/bin/phase'
+	@install -D -m 644 target/staticlib/libvelejume.a '$(DESTDIR)$(PREFIX)/lib/libvelejume.a'
+	@install -D -m 644 include/velejume.h '$(DESTDIR)$(PREFIX)/include/velejume.h'
+	@install -D -m 644 man/phase.1 '$(DESTDIR)$(PREFIX)/share/man/man1/phase.1'
+	@mkdir -p '$(DESTDIR)$(PREFIX)/lib/pkgconfig'
+	@sed 's|@PREFIX@|$(PREFIX)|' velejume.pc.in > '$(DESTDIR)$(PREFIX)/lib/pkgconfig/velejume.pc'
+
+bench: lib
+	@cd rust && cargo run --quiet --release --offline --bin bench
+
+soak: lib
+	@cd rust && cargo run --quiet --release --offline --bin soak -- $(SEED) $(COUNT)
+
+target/bin/phase: $(sources)
 	@echo 'proving and building phase (some minutes the first time)' >&2
-	@rt check phase > target-check.log 2>&1 || { cat target-check.log; rm -f target-check.log; exit 1; }
-	@rm -f target-check.log
+	@scripts/quietly rt check phase
 	@touch target/bin/phase
+
+target/staticlib/libvelejume.a: $(sources)
+	@echo 'proving and building the library (some minutes the first time)' >&2
+	@scripts/quietly rt staticlib velejume
+	@touch target/staticlib/libvelejume.a

@@ -27,7 +27,7 @@ install: target/bin/phase target/staticlib/libvelejume.a
 	@sed 's|@PREFIX@|$(PREFIX)|' velejume.pc.in > '$(DESTDIR)$(PREFIX)/lib/pkgconfig/velejume.pc'
 
 bench: lib
-	@cd rust && cargo run --quiet --release --offline --bin bench
+	@cd rust && cargo run --quiet --profile timed --offline --bin bench
 
 soak: lib
 	@cd rust && cargo run --quiet --release --offline --bin soak -- $(SEED) $(COUNT)

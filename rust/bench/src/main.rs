@@ -1,0 +1,65 @@
+//! The proved call beside the independent column method, on the same blocks in the same rooms, turn by turn.
+
+mod shapes;
+mod table;
+mod time;
+
+use blocks::Gaps;
+use matrix::Matrix;
+use shapes::{empty, tiled};
+use table::Table;
+
+fn head(words: &[&str]) -> Vec<String> {
+    words.iter().map(|word| word.to_string()).collect()
+}
+
+fn compared(name: &str, matrix: &Matrix) -> Vec<String> {
+    let times = time::measure(&matrix.block());
+    let micros = |nanos: f64| format!("{:.2}", nanos / 1e3);
+    vec![name.to_string(), micros(times.proved), micros(times.columns), format!("{:.2}", times.ratio)]
+}
+
+fn comparison() -> Table {
+    let p1 = matrix::parse("0:5 . / 1:3 0:2 / 1:6 1:1 / . 0:2", None).expect("P1 is a matrix");
+    Table(vec![
+        head(&["block", "proved µs", "columns µs", "ratio"]),
+        compared("m 1024, A 12, reads of 1024", &tiled(1024, 12, 1024, Gaps::None)),
+        compared("m 1024, A 12, reads of 40 with holes", &tiled(1024, 12, 40, Gaps::OneIn(4))),
+        compared("m 1024, A 12, pairs of 120", &tiled(1024, 12, 120, Gaps::Pair)),
+        compared("m 1024, A 8, reads of 40", &tiled(1024, 8, 40, Gaps::None)),
+        compared("m 1024, A 4, n 1024", &tiled(1024, 4, 4, Gaps::None)),
+        compared("m 128, A 8, reads of 40", &tiled(128, 8, 40, Gaps::None)),
+        compared("P1", &p1),
+        compared("m 1024, n 1024, all empty", &empty(1024, 1024)),
+    ])
+}
+
+fn grown(name: String, matrix: &Matrix) -> Vec<String> {
+    let times = time::measure(&matrix.block());
+    let micros = |nanos: f64| format!("{:.2}", nanos / 1e3);
+    let each = |nanos: f64| format!("{:.2}", nanos / times.size as f64);
+    let size = times.size.to_string();
+    vec![name, size, micros(times.proved), micros(times.columns), each(times.proved), each(times.columns)]
+}
+
+/// Each of m, n and A doubles while the other two stay.
+fn growth() -> Table {
+    let mut rows = vec![head(&["block", "size", "proved µs", "columns µs", "proved ns", "columns ns"])];
+    for m in [128, 256, 512, 1024] {
+        rows.push(grown(format!("m {m}, A 8"), &tiled(m, 8, 40, Gaps::None)));
+    }
+    for n in [64, 128, 256, 512, 1024] {
+        rows.push(grown(format!("n {n}, m 1024, A 4"), &tiled(1024, 4, 4096 / n, Gaps::None)));
+    }
+    for a in [1, 2, 4, 8, 12] {
+        rows.push(grown(format!("A {a}, m 1024"), &tiled(1024, a, 48, Gaps::None)));
+    }
+    Table(rows)
+}
+
+fn main() {
+    println!("Medians of {} rounds; the ratio is the median of the rounds' ratios.\n", time::ROUNDS);
+    println!("{}", comparison());
+    println!("Size is m × T entries and the bytes of the block together, ns are for one of them.\n");
+    println!("{}", growth());
+}

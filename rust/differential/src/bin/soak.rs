@@ -1,0 +1,25 @@
+//! soak SEED COUNT: so many random cases of every kind, a third of them damaged.
+
+use blocks::{Field, Kind, Random};
+use differential::{Case, Tally, check_case};
+use std::process::ExitCode;
+
+fn main() -> ExitCode {
+    let words: Vec<String> = std::env::args().skip(1).collect();
+    let numbers: Vec<u64> = words.iter().filter_map(|word| word.parse().ok()).collect();
+    let (&[seed, count], 2) = (numbers.as_slice(), words.len()) else {
+        eprintln!("usage: soak SEED COUNT");
+        return ExitCode::from(2);
+    };
+    let mut random = Random::new(seed);
+    let mut tally = Tally::default();
+    for i in 0..count {
+        let kinds: &[Kind] = if i % 50 == 0 { &Kind::LARGE } else { &Kind::SMALL };
+        let kind = random.pick(kinds);
+        let field = random.one_in(3).then(|| random.pick(&Field::ALL));
+        let case = Case::random(kind, field, &mut random);
+        tally.note(&case, check_case(&case, &mut random));
+    }
+    println!("{tally}");
+    if tally.good() { ExitCode::SUCCESS } else { ExitCode::FAILURE }
+}

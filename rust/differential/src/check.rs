@@ -1,0 +1,88 @@
+//! One call, compared in everything.
+
+use crate::Case;
+use crate::rooms::Rooms;
+use blocks::Random;
+use solver::{Block, Numbers};
+
+/// A call as document 01 has it.
+pub type Call = fn(&[u8], &mut [u32], &mut [u8]) -> Numbers;
+
+/// The proved call.
+pub fn proved(block: &[u8], work: &mut [u32], out: &mut [u8]) -> Numbers {
+    let numbers = velejume::phase_in(block, work, out);
+    (numbers.number, numbers.second)
+}
+
+/// What a call returns, and the rooms afterwards.
+fn called(call: Call, before: &Rooms) -> (Numbers, Rooms) {
+    let mut rooms = before.clone();
+    let numbers = call(rooms.block.lent(), rooms.work.lent(), rooms.out.lent());
+    (numbers, rooms)
+}
+
+/// Whether trying every division takes no longer than some milliseconds.
+fn searchable(block: &[u8]) -> bool {
+    Block::read(block).is_ok_and(|block| {
+        let with_cells = block.reads.iter().filter(|read| read.len() > 0).count();
+        with_cells <= 12 && (block.columns * block.reads.len()) << with_cells <= 1 << 22
+    })
+}
+
+/// A call must leave as it was: all on a refusal, else what lies beyond table and answer; the block and the guards always.
+fn kept(block: &[u8], before: &Rooms, after: &(Numbers, Rooms)) -> Result<(), String> {
+    let written = match (after.0, solver::rooms(block)) {
+        ((0, _), Ok(written)) => written,
+        ((0, _), Err(refusal)) => return Err(format!("accepted, not refused by {refusal:?}")),
+        _ => (0, 0),
+    };
+    let work = after.1.work.kept_from(written.0, &before.work);
+    let out = after.1.out.kept_from(written.1, &before.out);
+    match after.1.block == before.block && work && out {
+        true => Ok(()),
+        false => Err(format!("{:?}, and something is written that is to be kept", after.0)),
+    }
+}
+
+fn same(name: &str, given: &(Numbers, Rooms), wanted: &(Numbers, Rooms)) -> Result<(), String> {
+    if given.0 != wanted.0 {
+        return Err(format!("gives {:?}, {name} {:?}", given.0, wanted.0));
+    }
+    if let Some(place) = given.1.work.difference(&wanted.1.work) {
+        return Err(format!("{:?}, work entry {place} is not as by {name}", given.0));
+    }
+    if let Some(place) = given.1.out.difference(&wanted.1.out) {
+        return Err(format!("{:?}, output byte {place} is not as by {name}", given.0));
+    }
+    Ok(())
+}
+
+/// Compares a call with the independent solver, in rooms of these sizes. Gives the numbers and whether every division was
+/// tried, or what differs.
+pub fn check(
+    call: Call,
+    block: &[u8],
+    work: usize,
+    out: usize,
+    random: &mut Random,
+) -> Result<(Numbers, bool), String> {
+    let before = Rooms::random(block, work, out, random);
+    let given = called(call, &before);
+    let fault = |fault: String| {
+        let block: String = block.iter().map(|byte| format!("{byte:02x}")).collect();
+        format!("{fault}; work {work}, out {out}, block {block}")
+    };
+    kept(block, &before, &given).map_err(fault)?;
+    same("columns", &given, &called(solver::columns, &before)).map_err(fault)?;
+    let searched = searchable(block);
+    if searched {
+        same("plain search", &given, &called(solver::exhaustive, &before)).map_err(fault)?;
+    }
+    Ok((given.0, searched))
+}
+
+/// The proved call, compared on a case.
+pub fn check_case(case: &Case, random: &mut Random) -> Result<(Numbers, bool), String> {
+    let checked = check(proved, &case.block, case.work.1, case.out.1, random);
+    checked.map_err(|fault| format!("{:?}, damaged {:?}: {fault}", case.kind, case.field))
+}

@@ -1,0 +1,68 @@
+//! How many cases of each sort were compared, so that none is missing unseen.
+
+use crate::Case;
+use solver::Numbers;
+use std::collections::BTreeMap;
+use std::fmt;
+
+#[derive(Default)]
+pub struct Tally {
+    counts: BTreeMap<(&'static str, String), u64>,
+    passed: u64,
+    faults: Vec<String>,
+}
+
+impl Tally {
+    fn count(&mut self, sort: &'static str, name: impl fmt::Debug) {
+        *self.counts.entry((sort, format!("{name:4?}"))).or_default() += 1;
+    }
+
+    /// Notes a case and what came of it: the numbers and whether every division was tried, or what differs.
+    pub fn note(&mut self, case: &Case, checked: Result<(Numbers, bool), String>) {
+        self.count("kind", case.kind);
+        if let Some(field) = case.field {
+            self.count("damaged", field);
+        }
+        self.count("work room", case.work.0);
+        self.count("output", case.out.0);
+        match checked {
+            Ok(((number, _), searched)) => {
+                self.passed += 1;
+                self.count("number", number);
+                self.count("every division tried", searched);
+                if number == 0 {
+                    self.count("T", case.width());
+                }
+            }
+            Err(fault) => self.faults.push(fault),
+        }
+    }
+
+    /// Whether no case failed, and there was one.
+    pub fn good(&self) -> bool {
+        self.faults.is_empty() && self.passed > 0
+    }
+
+    /// Panics if a case failed, and if one of these was not among the cases.
+    pub fn require<T: fmt::Debug>(&self, sort: &'static str, names: impl IntoIterator<Item = T>) {
+        assert!(self.good(), "{self}");
+        for name in names {
+            let met = self.counts.contains_key(&(sort, format!("{name:4?}")));
+            assert!(met, "no case with {sort} {name:?}:\n{self}");
+        }
+    }
+}
+
+impl fmt::Display for Tally {
+    fn fmt(&self, f: &mut fmt::Formatter) -> fmt::Result {
+        let mut sort = "";
+        for ((of, name), count) in &self.counts {
+            let start = if sort == *of { ",".to_string() } else { format!("\n{of}:") };
+            write!(f, "{start} {} {count}", name.trim())?;
+            sort = of;
+        }
+        writeln!(f)?;
+        self.faults.iter().take(5).try_for_each(|fault| writeln!(f, "{fault}"))?;
+        write!(f, "{} passed, {} failed", self.passed, self.faults.len())
+    }
+}

@@ -1,0 +1,47 @@
+//! Every size of both rooms, from nothing to more than enough.
+
+use blocks::{Kind, Random};
+use differential::{check, proved};
+
+/// The number that these rooms give to a block that needs so much.
+fn expected(need: (usize, usize), work: usize, out: usize) -> u32 {
+    match (work < need.0, out < need.1) {
+        (true, _) => 10,
+        (false, true) => 11,
+        (false, false) => 0,
+    }
+}
+
+/// Every size of the work room beside some of the output, and the other way round; gives how many calls were refused by
+/// 10 and by 11, and how many accepted.
+fn every_size(block: &[u8], need: (usize, usize), random: &mut Random) -> [usize; 3] {
+    let works = (0..need.0 + 3).flat_map(|work| [0, need.1 - 1, need.1, need.1 + 40].map(|out| (work, out)));
+    let outs = (0..need.1 + 3).flat_map(|out| [0, need.0 - 1, need.0, need.0 + 40].map(|work| (work, out)));
+    let mut counts = [0; 3];
+    for (work, out) in works.chain(outs) {
+        let number = match check(proved, block, work, out, random) {
+            Ok(((number, _), _)) => number,
+            Err(fault) => panic!("{fault}"),
+        };
+        assert_eq!(number, expected(need, work, out), "work {work} and output {out} for a need of {need:?}");
+        counts[[10, 11, 0].iter().position(|&n| n == number).expect("one of these")] += 1;
+    }
+    counts
+}
+
+#[test]
+fn rooms_of_every_size_get_what_they_should() {
+    let mut random = Random::new(5);
+    let mut total = [0; 3];
+    for kind in Kind::SMALL {
+        for _ in 0..20 {
+            let block = kind.matrix(&mut random).block();
+            if let Some(need) = solver::rooms(&block).ok().filter(|need| need.0 <= 600) {
+                let counts = every_size(&block, need, &mut random);
+                total = std::array::from_fn(|i| total[i] + counts[i]);
+            }
+        }
+    }
+    println!("refused by 10: {}, by 11: {}, accepted: {}", total[0], total[1], total[2]);
+    assert!(total.iter().all(|&count| count > 1000), "{total:?}");
+}

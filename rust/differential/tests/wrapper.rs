@@ -1,0 +1,47 @@
+//! The safe wrapper against the independent solver.
+
+use blocks::{Field, Kind, Random};
+use differential::Case;
+use velejume::Answer;
+
+/// An answer as document 01's answer block lays it out, from byte 5 on.
+fn laid(answer: &Answer) -> Vec<u8> {
+    let [first, second] = &answer.haplotypes;
+    let numbers = [answer.cost.to_be_bytes(), answer.flips.to_be_bytes()].concat();
+    let sizes = [(answer.sides.len() as u16).to_be_bytes(), (first.len() as u16).to_be_bytes()].concat();
+    let letters: Vec<u8> = first.iter().chain(second).map(|&letter| letter as u8).collect();
+    [numbers, sizes, answer.sides.clone(), letters].concat()
+}
+
+/// What the solver gives in rooms of just the size: the table and the answer block from byte 5 on, or the numbers.
+fn solved(block: &[u8]) -> Result<(Vec<u32>, Vec<u8>), (u32, u32)> {
+    let (entries, length) = solver::rooms(block)?;
+    let (mut work, mut out) = (vec![0; entries], vec![0; length]);
+    assert_eq!(solver::columns(block, &mut work, &mut out).0, 0, "the rooms suffice");
+    Ok((work, out[5..].to_vec()))
+}
+
+#[test]
+fn the_wrapper_gives_the_solvers_answers_and_refusals() {
+    let mut random = Random::new(7);
+    let (mut answers, mut refusals) = (0, [0; 10]);
+    for i in 0..6000 {
+        let kind = if i % 100 == 0 { random.pick(&Kind::LARGE) } else { random.pick(&Kind::SMALL) };
+        let field = random.one_in(2).then(|| random.pick(&Field::ALL));
+        let block = Case::random(kind, field, &mut random).block;
+        match (velejume::phase(&block), solved(&block)) {
+            (Ok(answer), Ok((table, bytes))) => {
+                answers += 1;
+                assert_eq!(answer.table.entries(), table, "{block:?}");
+                assert_eq!(laid(&answer), bytes, "{block:?}");
+            }
+            (Err(refusal), Err(numbers)) => {
+                refusals[numbers.0 as usize] += 1;
+                assert_eq!((refusal.number(), refusal.second()), numbers, "{block:?}");
+            }
+            (given, solved) => panic!("{given:?}, not {solved:?} of {block:?}"),
+        }
+    }
+    println!("{answers} answers, refusals 1 to 9: {:?}", &refusals[1..]);
+    assert!(answers > 1000 && refusals[1..].iter().all(|&count| count > 0));
+}

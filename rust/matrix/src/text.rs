@@ -1,0 +1,110 @@
+//! A matrix as text.
+
+use crate::{Cell, Matrix, Row};
+use std::fmt;
+
+/// Why a text is no matrix. Rows and entries are counted from 1 here, as a reader of the text counts them.
+#[derive(Clone, Debug, PartialEq, Eq)]
+pub enum Fault {
+    Entry { row: usize, entry: usize, word: String },
+    EmptyRow { row: usize },
+    LongRow { row: usize, entries: usize, columns: usize },
+    NoColumns,
+    Columns(usize),
+    Rows(usize),
+}
+
+impl fmt::Display for Fault {
+    fn fmt(&self, f: &mut fmt::Formatter) -> fmt::Result {
+        match self {
+            Fault::Entry { row, entry, word } => write!(
+                f,
+                "row {row}, entry {entry}: '{word}' is neither '.' nor a letter 0 or 1, ':' and a weight 0 to 255"
+            ),
+            Fault::EmptyRow { row } => write!(f, "row {row} is empty: a read without cells is written '.'"),
+            Fault::LongRow { row, entries, columns } => {
+                write!(f, "row {row} has {entries} entries, and there are {columns} columns")
+            }
+            Fault::NoColumns => write!(f, "no row says how many columns there are: give their number"),
+            Fault::Columns(columns) => write!(f, "{columns} columns: a block has 1 to 1024"),
+            Fault::Rows(rows) => write!(f, "{rows} rows: a block has at most 1024 reads"),
+        }
+    }
+}
+
+impl std::error::Error for Fault {}
+
+/// A number without sign and without needless zeros.
+fn weight(digits: &str) -> Option<u8> {
+    let plain = digits.bytes().all(|b| b.is_ascii_digit()) && (digits == "0" || !digits.starts_with('0'));
+    if plain { digits.parse().ok() } else { None }
+}
+
+/// A word of the text; None where it is no entry.
+fn cell(word: &str) -> Option<Cell> {
+    match word.split_once(':') {
+        None => (word == ".").then_some(None),
+        Some(("0", digits)) => Some(Some((0, weight(digits)?))),
+        Some(("1", digits)) => Some(Some((1, weight(digits)?))),
+        Some(_) => None,
+    }
+}
+
+/// The cells of a row, dots before the first and after the last entry included.
+fn line(row: usize, text: &str) -> Result<Vec<Cell>, Fault> {
+    let mut cells = Vec::new();
+    for word in text.split_whitespace() {
+        let entry = cells.len() + 1;
+        let word_again = || word.to_string();
+        cells.push(cell(word).ok_or_else(|| Fault::Entry { row, entry, word: word_again() })?);
+    }
+    if cells.is_empty() { Err(Fault::EmptyRow { row }) } else { Ok(cells) }
+}
+
+/// A row without the dots around its entries.
+fn row(cells: &[Cell]) -> Row {
+    let first = cells.iter().position(Option::is_some);
+    let last = cells.iter().rposition(Option::is_some);
+    match first.zip(last) {
+        Some((first, last)) => Row { first, cells: cells[first..=last].to_vec() },
+        None => Row::default(),
+    }
+}
+
+/// The matrix that a text stands for. Columns that no row reaches have to be given.
+pub fn parse(text: &str, columns: Option<usize>) -> Result<Matrix, Fault> {
+    let text = text.trim();
+    let texts = if text.is_empty() { Vec::new() } else { text.split('/').collect() };
+    let lines = texts.iter().enumerate().map(|(i, text)| line(i + 1, text));
+    let lines = lines.collect::<Result<Vec<_>, _>>()?;
+    let longest = lines.iter().map(Vec::len).max();
+    let columns = columns.or(longest).ok_or(Fault::NoColumns)?;
+    if columns == 0 || columns > 1024 {
+        return Err(Fault::Columns(columns));
+    }
+    if lines.len() > 1024 {
+        return Err(Fault::Rows(lines.len()));
+    }
+    if let Some(i) = lines.iter().position(|line| line.len() > columns) {
+        return Err(Fault::LongRow { row: i + 1, entries: lines[i].len(), columns });
+    }
+    Ok(Matrix { columns, rows: lines.iter().map(|line| row(line)).collect() })
+}
+
+impl fmt::Display for Matrix {
+    /// A line for each read, each with all columns. A matrix without reads prints nothing.
+    fn fmt(&self, f: &mut fmt::Formatter) -> fmt::Result {
+        for (i, row) in self.rows.iter().enumerate() {
+            let words = (0..self.columns).map(|column| {
+                let cell = column.checked_sub(row.first).and_then(|i| row.cells.get(i));
+                match cell.copied().flatten() {
+                    Some((letter, weight)) => format!("{letter}:{weight}"),
+                    None => ".".to_string(),
+                }
+            });
+            let end = if i + 1 < self.rows.len() { " /" } else { "" };
+            writeln!(f, "{}{end}", words.collect::<Vec<_>>().join(" "))?;
+        }
+        Ok(())
+    }
+}

@@ -1,0 +1,85 @@
+//! The notation to blocks and back: P1 to P9, and texts that are no matrix.
+
+use matrix::{Matrix, parse};
+
+/// P1 to P9: the text, the columns where they are given, the block in hexadecimal.
+const EXAMPLES: [(&str, Option<usize>, &str); 9] = [
+    (
+        "0:5 . / 1:3 0:2 / 1:6 1:1 / . 0:2",
+        None,
+        "010000002000020004000400000005000600000103000200060000010601010004000100 02",
+    ),
+    (
+        "0:4 . 1:3 / 0:5 0:5 0:5 / 1:5 1:5 1:5",
+        None,
+        "010000002200030003000800000004020001030008000000050005000500080000010501050105",
+    ),
+    ("", Some(1), "010000000400010000"),
+    ("0:7", None, "010000000a00010001000400000007"),
+    ("0:5 / 1:5", None, "010000001000010002000400000005000400000105"),
+    ("0:3 / 0:3", None, "010000001000010002000400000003000400000003"),
+    ("0:0 / 1:0", None, "010000001000010002000400000000000400000100"),
+    ("1:4 .", None, "010000000a00020001000400000104"),
+    (". / 0:7", None, "010000000e0001000200020000000400000007"),
+];
+
+fn bytes(hexadecimal: &str) -> Vec<u8> {
+    let digits: Vec<u32> = hexadecimal.chars().filter_map(|digit| digit.to_digit(16)).collect();
+    digits.chunks(2).map(|pair| (16 * pair[0] + pair[1]) as u8).collect()
+}
+
+#[test]
+fn p1_to_p9_are_the_blocks_of_their_matrices() {
+    for (text, columns, block) in EXAMPLES {
+        assert_eq!(parse(text, columns).unwrap().block(), bytes(block), "{text}");
+    }
+}
+
+#[test]
+fn p1_to_p9_come_back_from_block_and_text() {
+    for (text, columns, block) in EXAMPLES {
+        let matrix = Matrix::read(&bytes(block)).unwrap();
+        assert_eq!(matrix, parse(text, columns).unwrap());
+        assert_eq!(matrix.to_string().split_whitespace().collect::<Vec<_>>().join(" "), text);
+        assert_eq!(parse(&matrix.to_string(), columns), Ok(matrix));
+    }
+}
+
+#[test]
+fn columns_after_the_longest_row_are_given() {
+    assert_eq!(parse("1:4", Some(2)), parse("1:4 .", None));
+    assert_eq!(parse("1:4", Some(1)), parse("1:4", None));
+}
+
+#[test]
+fn dots_are_holes_only_between_entries() {
+    let matrix = parse(". . 0:1 . 1:2 . / . 0:0", None).unwrap();
+    assert_eq!(matrix.rows[0].first, 2);
+    assert_eq!(matrix.rows[0].cells, [Some((0, 1)), None, Some((1, 2))]);
+    assert_eq!(matrix.rows[1].cells, [Some((0, 0))]);
+}
+
+#[test]
+fn a_text_that_is_no_matrix_is_refused_with_its_place() {
+    let rows = vec!["0:1"; 1025].join("/");
+    let long = vec!["."; 1025].join(" ");
+    let faults = [
+        ("0:5 / 1:3 x", "row 2, entry 2: 'x' is neither"),
+        ("2:5", "row 1, entry 1: '2:5' is neither"),
+        ("0:256", "row 1, entry 1: '0:256' is neither"),
+        ("0:", "row 1, entry 1: '0:' is neither"),
+        ("0:+5", "row 1, entry 1: '0:+5' is neither"),
+        ("0:05", "row 1, entry 1: '0:05' is neither"),
+        ("0:5 / / 0:5", "row 2 is empty"),
+        ("0:5 /", "row 2 is empty"),
+        (" \n", "no row says how many columns"),
+        (&rows, "1025 rows"),
+        (&long, "1025 columns"),
+    ];
+    for (text, message) in faults {
+        let fault = parse(text, None).unwrap_err().to_string();
+        assert!(fault.starts_with(message), "'{fault}' does not start with '{message}'");
+    }
+    assert_eq!(parse("0:1 / 0:1 .", Some(1)).unwrap_err().to_string(), "row 2 has 2 entries, and there are 1 columns");
+    assert_eq!(parse("", Some(0)).unwrap_err().to_string(), "0 columns: a block has 1 to 1024");
+}

@@ -1,0 +1,41 @@
+//! The column method of document 000, written for speed: one column follows from the one before, and the sides are
+//! read back from the last column to the first.
+
+mod back;
+mod carry;
+mod letters;
+mod pile;
+mod walk;
+
+use crate::checks::{Placed, entries};
+use crate::{Block, Numbers, answer};
+use pile::Pile;
+
+/// Phases a block by columns, in time that grows with the bytes of the block and the entries of the table.
+pub fn columns(bytes: &[u8], work: &mut [u32], out: &mut [u8]) -> Numbers {
+    match Placed::accepted(bytes, work.len(), out.len()) {
+        Ok(Placed { block, width }) => {
+            let piles = pile::piles(&block);
+            table(&block, &piles, width, work);
+            let (sides, haplotypes) = answer::parts(&block, out);
+            let cost = back::way_back(&block, &piles, width, work, sides);
+            let flips = letters::write(&block, sides, haplotypes);
+            answer::write_head(&block, cost, flips, out);
+            (0, cost)
+        }
+        Err(numbers) => numbers,
+    }
+}
+
+/// Every column's entries, from the first column on.
+fn table(block: &Block, piles: &[Pile], width: usize, work: &mut [u32]) {
+    let mut room = vec![0; width];
+    let mut before: &[u32] = &[0];
+    for (column, (part, pile)) in work.chunks_exact_mut(width).zip(piles).enumerate() {
+        let carried = carry::least(before, entries(pile.joined()), &mut room);
+        let (used, rest) = part.split_at_mut(entries(pile.reads().len()));
+        walk::fill(block, pile, column, carried, used);
+        rest.fill(0);
+        before = used;
+    }
+}

@@ -1,0 +1,106 @@
+//! Every division is tried. Nothing here follows from a neighbouring column.
+
+use crate::checks::{Placed, entries};
+use crate::{Block, Numbers, answer};
+
+/// Phases a block by trying every division. The time doubles with each read that has cells.
+pub fn exhaustive(bytes: &[u8], work: &mut [u32], out: &mut [u8]) -> Numbers {
+    match Placed::accepted(bytes, work.len(), out.len()) {
+        Ok(Placed { block, width }) => {
+            let (cost, division) = search(&block, width, work);
+            let flips = write_parts(&block, &division, out);
+            answer::write_head(&block, cost, flips, out);
+            (0, cost)
+        }
+        Err(numbers) => numbers,
+    }
+}
+
+/// The reads with c > 0, latest last column first, equal last columns by read number.
+fn closing_order(block: &Block) -> Vec<usize> {
+    let mut order: Vec<usize> = (0..block.reads.len()).filter(|&r| block.reads[r].len() > 0).collect();
+    order.sort_by_key(|&r| (std::cmp::Reverse(block.reads[r].end), r));
+    order
+}
+
+/// By side and letter: the weight of the entries of a column that have this letter, and how many they are.
+fn sums(block: &Block, sides: &[u8], column: usize) -> ([[u32; 2]; 2], [[u32; 2]; 2]) {
+    let (mut weights, mut counts) = ([[0; 2]; 2], [[0; 2]; 2]);
+    for (read, &side) in block.reads.iter().zip(sides) {
+        if read.active(column) {
+            let cell = &block.cells(read)[2 * (column - usize::from(read.first))..];
+            if cell[0] < 2 {
+                weights[usize::from(side)][usize::from(cell[0])] += u32::from(cell[1]);
+                counts[usize::from(side)][usize::from(cell[0])] += 1;
+            }
+        }
+    }
+    (weights, counts)
+}
+
+fn charge(block: &Block, sides: &[u8], column: usize) -> u32 {
+    let (w, _) = sums(block, sides, column);
+    w[0][0].min(w[0][1]) + w[1][0].min(w[1][1])
+}
+
+/// The entry that stands for a division of a column's active reads, if a0 is on side 0.
+fn index(active: &[usize], sides: &[u8]) -> Option<usize> {
+    let Some((&a0, rest)) = active.split_first() else {
+        return Some(0);
+    };
+    let digit = |(i, &r): (usize, &usize)| usize::from(sides[r]) << i;
+    (sides[a0] == 0).then(|| rest.iter().enumerate().map(digit).sum())
+}
+
+/// Makes the table; gives the least cost and the first division in closing order that has it. The first read in
+/// closing order is the highest digit of a division's number, so the numbers rise in closing order.
+fn search(block: &Block, width: usize, work: &mut [u32]) -> (u32, Vec<u8>) {
+    let order = closing_order(block);
+    let active: Vec<Vec<usize>> =
+        (0..block.columns).map(|j| order.iter().copied().filter(|&r| block.reads[r].active(j)).collect()).collect();
+    for (part, active) in work.chunks_exact_mut(width).zip(&active) {
+        part.fill(0);
+        part[..entries(active.len())].fill(u32::MAX);
+    }
+    let mut best = (u32::MAX, Vec::new());
+    for number in 0..1u64 << order.len() {
+        let mut sides = vec![0; block.reads.len()];
+        for (i, &r) in order.iter().enumerate() {
+            sides[r] = (number >> (order.len() - 1 - i) & 1) as u8;
+        }
+        let cost = enter(block, width, &active, &sides, work);
+        if cost < best.0 {
+            best = (cost, sides);
+        }
+    }
+    best
+}
+
+/// Enters one division's sums into the table, column by column; gives its cost.
+fn enter(block: &Block, width: usize, active: &[Vec<usize>], sides: &[u8], work: &mut [u32]) -> u32 {
+    let mut sum = 0;
+    for (column, active) in active.iter().enumerate() {
+        sum += charge(block, sides, column);
+        if let Some(k) = index(active, sides) {
+            let entry = &mut work[column * width + k];
+            *entry = sum.min(*entry);
+        }
+    }
+    sum
+}
+
+/// Writes sides and letters; gives the number of flips.
+fn write_parts(block: &Block, division: &[u8], out: &mut [u8]) -> u32 {
+    let (sides, haplotypes) = answer::parts(block, out);
+    sides.copy_from_slice(division);
+    let mut flips = 0;
+    for (side, haplotype) in haplotypes.into_iter().enumerate() {
+        for (column, letter) in haplotype.iter_mut().enumerate() {
+            let (weights, counts) = sums(block, division, column);
+            let ([w1, w0], [zeros, ones]) = (weights[side], counts[side]);
+            *letter = answer::letter(w0, w1);
+            flips += answer::flips(w0, w1, zeros, ones);
+        }
+    }
+    flips
+}

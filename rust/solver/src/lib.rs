@@ -1,0 +1,19 @@
+//! A solver of fragment blocks that shares nothing with the proved library, written from document 01.
+//!
+//! [`exhaustive`] tries every division of the reads and is for small blocks. [`columns`] is the column
+//! method, written for speed. Both take the rooms that the proved call takes and leave in them what
+//! document 01 says, entry by entry and byte by byte.
+
+mod answer;
+mod block;
+mod checks;
+mod columns;
+mod exhaustive;
+
+pub use block::{Block, Read};
+pub use checks::rooms;
+pub use columns::columns;
+pub use exhaustive::exhaustive;
+
+/// The number of document 01's table, 0 on acceptance, and the second number.
+pub type Numbers = (u32, u32);

@@ -3,7 +3,7 @@
 use crate::{Gaps, Random, Style, Weights};
 use matrix::{Matrix, Row};
 
-/// The small kinds have at most 14 reads with cells, so that every division can be tried.
+/// The small kinds have so few reads with cells that every division can be tried, unless more than 12 are active.
 #[derive(Clone, Copy, Debug, PartialEq, Eq)]
 pub enum Kind {
     Gapless,
@@ -20,6 +20,8 @@ pub enum Kind {
     Apart,
     /// 11 to 14 reads around one column
     Crowded,
+    /// few reads on up to 1,024 columns
+    Long,
     /// up to 1,024 reads and 1,024 columns
     Many,
     /// up to 12 active reads on up to 1,024 columns
@@ -27,7 +29,7 @@ pub enum Kind {
 }
 
 impl Kind {
-    pub const SMALL: [Kind; 8] = [
+    pub const SMALL: [Kind; 9] = [
         Kind::Gapless,
         Kind::Pairs,
         Kind::Holes,
@@ -36,6 +38,7 @@ impl Kind {
         Kind::Empty,
         Kind::Apart,
         Kind::Crowded,
+        Kind::Long,
     ];
     pub const LARGE: [Kind; 2] = [Kind::Many, Kind::Deep];
 
@@ -55,6 +58,7 @@ impl Kind {
             Kind::Empty => with_empty_reads(scattered(random, style(Gaps::OneIn(3))), random),
             Kind::Apart => apart(random, style(Gaps::OneIn(3))),
             Kind::Crowded => crowded(random, style(Gaps::Pair)),
+            Kind::Long => long(random, style(Gaps::OneIn(3))),
             Kind::Many => layered(random, 1024, 9),
             Kind::Deep => layered(random, 200, 13),
         }
@@ -78,6 +82,17 @@ fn paired(random: &mut Random, style: Style) -> Matrix {
         if random.one_in(4) { style.row_within(random, 0, columns, 3) } else { style.row(random, first, cells) }
     };
     Matrix { columns, rows: (0..reads).map(|_| row(random)).collect() }
+}
+
+/// Few reads, long and short ones.
+fn long(random: &mut Random, style: Style) -> Matrix {
+    let most = random.pick(&[40, 40, 100, 1024]);
+    let (columns, reads) = (random.within(20, most), random.within(0, 8));
+    let rows = (0..reads).map(|_| {
+        let longest = random.pick(&[3, 20, columns]);
+        style.row_within(random, 0, columns, longest)
+    });
+    Matrix { columns, rows: rows.collect() }
 }
 
 /// A row with every letter exchanged.
@@ -147,7 +162,8 @@ fn limits(random: &mut Random, columns: usize, most: usize) -> Vec<usize> {
 
 /// Many reads, but at most so many active at a column; where no place is found for one, it has no cells.
 fn layered(random: &mut Random, reads: usize, most_active: usize) -> Matrix {
-    let (columns, reads) = (random.within(40, 1024), random.within(reads / 8, reads));
+    let widest = random.pick(&[40, 1024, 1024]);
+    let (columns, reads) = (random.within(widest / 40, widest), random.within(reads / 8, reads));
     let most_active = random.within(1, most_active);
     let mut left = limits(random, columns, most_active);
     let longest = (3 * most_active * columns / reads).clamp(1, columns);

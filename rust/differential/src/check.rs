@@ -24,7 +24,7 @@ fn called(call: Call, before: &Rooms) -> (Numbers, Rooms) {
 /// Whether trying every division takes no longer than some milliseconds.
 fn searchable(block: &[u8]) -> bool {
     Block::read(block).is_ok_and(|block| {
-        let with_cells = block.reads.iter().filter(|read| read.len() > 0).count();
+        let with_cells = block.reads.iter().filter(|read| read.c() > 0).count();
         with_cells <= 12 && (block.columns * block.reads.len()) << with_cells <= 1 << 22
     })
 }
@@ -58,7 +58,7 @@ fn same(name: &str, given: &(Numbers, Rooms), wanted: &(Numbers, Rooms)) -> Resu
 }
 
 /// Compares a call with the independent solver, in rooms of these sizes. Gives the numbers and whether every division was
-/// tried, or what differs.
+/// tried for it, or what differs.
 pub fn check(
     call: Call,
     block: &[u8],
@@ -78,7 +78,7 @@ pub fn check(
     if searched {
         same("plain search", &given, &called(solver::exhaustive, &before)).map_err(fault)?;
     }
-    Ok((given.0, searched))
+    Ok((given.0, searched && given.0.0 == 0))
 }
 
 /// The proved call, compared on a case.

@@ -27,9 +27,9 @@ impl<T: Copy + PartialEq> Room<T> {
         Some(place as isize - GUARD as isize)
     }
 
-    /// Whether all from a place on, and the guards, are as in another room.
+    /// Whether all from a place of what is lent on, and the guards, are as in another room.
     pub fn kept_from(&self, place: usize, other: &Self) -> bool {
-        let place = GUARD + place;
+        let place = (GUARD + place).min(self.all.len() - GUARD);
         self.all[place..] == other.all[place..] && self.all[..GUARD] == other.all[..GUARD]
     }
 }

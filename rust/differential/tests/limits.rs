@@ -33,9 +33,11 @@ fn columns_1024_and_1025() {
 
 #[test]
 fn reads_1024_and_1025() {
-    let reads = |n| Matrix { columns: 3, rows: vec![Row::default(); n] };
-    assert_eq!(ample(&reads(1024).block()), (0, 0));
-    assert_eq!(ample(&reads(1025).block()), (4, 0));
+    for columns in [1, 3, 1024] {
+        let reads = |n| Matrix { columns, rows: vec![Row::default(); n] };
+        assert_eq!(ample(&reads(1024).block()), (0, 0));
+        assert_eq!(ample(&reads(1025).block()), (4, 0));
+    }
 }
 
 #[test]

@@ -23,9 +23,9 @@ impl fmt::Display for Fault {
             ),
             Fault::EmptyRow { row } => write!(f, "row {row} is empty: a read without cells is written '.'"),
             Fault::LongRow { row, entries, columns } => {
-                write!(f, "row {row} has {entries} entries, and there are {columns} columns")
+                write!(f, "row {row} has {entries} entries, columns given: {columns}")
             }
-            Fault::NoColumns => write!(f, "no row says how many columns there are: give their number"),
+            Fault::NoColumns => write!(f, "no row says how many columns there are: give them by --columns"),
             Fault::Columns(columns) => write!(f, "{columns} columns: a block has 1 to 1024"),
             Fault::Rows(rows) => write!(f, "{rows} rows: a block has at most 1024 reads"),
         }
@@ -54,9 +54,9 @@ fn cell(word: &str) -> Option<Cell> {
 fn line(row: usize, text: &str) -> Result<Vec<Cell>, Fault> {
     let mut cells = Vec::new();
     for word in text.split_whitespace() {
-        let entry = cells.len() + 1;
-        let word_again = || word.to_string();
-        cells.push(cell(word).ok_or_else(|| Fault::Entry { row, entry, word: word_again() })?);
+        let fault = || Fault::Entry { row, entry: cells.len() + 1, word: word.to_string() };
+        let cell = cell(word).ok_or_else(fault)?;
+        cells.push(cell);
     }
     if cells.is_empty() { Err(Fault::EmptyRow { row }) } else { Ok(cells) }
 }

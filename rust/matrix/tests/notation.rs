@@ -7,7 +7,7 @@ const EXAMPLES: [(&str, Option<usize>, &str); 9] = [
     (
         "0:5 . / 1:3 0:2 / 1:6 1:1 / . 0:2",
         None,
-        "010000002000020004000400000005000600000103000200060000010601010004000100 02",
+        "01000000200002000400040000000500060000010300020006000001060101000400010002",
     ),
     (
         "0:4 . 1:3 / 0:5 0:5 0:5 / 1:5 1:5 1:5",
@@ -24,7 +24,7 @@ const EXAMPLES: [(&str, Option<usize>, &str); 9] = [
 ];
 
 fn bytes(hexadecimal: &str) -> Vec<u8> {
-    let digits: Vec<u32> = hexadecimal.chars().filter_map(|digit| digit.to_digit(16)).collect();
+    let digits: Vec<u32> = hexadecimal.chars().map(|digit| digit.to_digit(16).unwrap()).collect();
     digits.chunks(2).map(|pair| (16 * pair[0] + pair[1]) as u8).collect()
 }
 
@@ -80,6 +80,6 @@ fn a_text_that_is_no_matrix_is_refused_with_its_place() {
         let fault = parse(text, None).unwrap_err().to_string();
         assert!(fault.starts_with(message), "'{fault}' does not start with '{message}'");
     }
-    assert_eq!(parse("0:1 / 0:1 .", Some(1)).unwrap_err().to_string(), "row 2 has 2 entries, and there are 1 columns");
+    assert_eq!(parse("0:1 / 0:1 .", Some(1)).unwrap_err().to_string(), "row 2 has 2 entries, columns given: 1");
     assert_eq!(parse("", Some(0)).unwrap_err().to_string(), "0 columns: a block has 1 to 1024");
 }

@@ -75,7 +75,7 @@ impl<'a> Block<'a> {
         let mut at = 9;
         for number in 0..count {
             let read = read_at(bytes, at, columns).map_err(|refusal| (refusal, number as u32))?;
-            at += 4 + 2 * read.len();
+            at += 4 + 2 * read.c();
             reads.push(read);
         }
         if at != bytes.len() {
@@ -86,14 +86,14 @@ impl<'a> Block<'a> {
 
     /// The cells of a read, two bytes each, as they stand in the block.
     pub fn cells(&self, read: &Read) -> &'a [u8] {
-        &self.bytes[read.at as usize..][..2 * read.len()]
+        &self.bytes[read.at as usize..][..2 * read.c()]
     }
 
     /// The letter and the weight of a read at a column where it is active. A hole has letter 2.
     ///
     /// # Safety
     /// The read is of this block and is active at the column.
-    pub unsafe fn cell(&self, read: &Read, column: usize) -> (u8, u8) {
+    pub(crate) unsafe fn cell(&self, read: &Read, column: usize) -> (u8, u8) {
         let at = read.at as usize + 2 * (column - read.first as usize);
         unsafe { (*self.bytes.get_unchecked(at), *self.bytes.get_unchecked(at + 1)) }
     }
@@ -101,8 +101,7 @@ impl<'a> Block<'a> {
 
 impl Read {
     /// How many cells the read has.
-    #[allow(clippy::len_without_is_empty)]
-    pub fn len(&self) -> usize {
+    pub fn c(&self) -> usize {
         usize::from(self.end - self.first)
     }
 

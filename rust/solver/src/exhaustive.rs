@@ -18,7 +18,7 @@ pub fn exhaustive(bytes: &[u8], work: &mut [u32], out: &mut [u8]) -> Numbers {
 
 /// The reads with c > 0, latest last column first, equal last columns by read number.
 fn closing_order(block: &Block) -> Vec<usize> {
-    let mut order: Vec<usize> = (0..block.reads.len()).filter(|&r| block.reads[r].len() > 0).collect();
+    let mut order: Vec<usize> = (0..block.reads.len()).filter(|&r| block.reads[r].c() > 0).collect();
     order.sort_by_key(|&r| (std::cmp::Reverse(block.reads[r].end), r));
     order
 }

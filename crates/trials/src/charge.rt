@@ -1,0 +1,104 @@
+// One division at one column: the sums of weights, the charge, the letters and the flips, each from the cells themselves.
+ghost use Prim.Native.Nat.{_≤_, _<_};
+use crate::matrix::Cells;
+
+// The side of each row.
+pub type Sides = [u8; 16];
+
+pub fn sum(a: u32, b: u32) -> u32 {
+    std::num::wrapping_add_u32(a, b)
+}
+
+pub fn least(a: u32, b: u32) -> u32 {
+    if b < a { b } else { a }
+}
+
+fn cell(cells: &Cells, i: usize, j: usize) -> u8
+    requires { ⌜ (i < 16) × (j < 1024) ⌝ }
+{
+    cells[i * 1024 + j]
+}
+
+// Whether row i stands on the side and has the letter at column j.
+fn holds(letters: &Cells, sides: &Sides, i: usize, j: usize, side: u8, letter: u8) -> bool
+    requires { ⌜ (i < 16) × (j < 1024) ⌝ }
+{
+    if sides[i] == side {
+        return cell(letters, i, j) == letter;
+    }
+    false
+}
+
+// The weights of a side's entries with this letter at column j, summed.
+fn weight(
+    letters: &Cells,
+    weights: &Cells,
+    sides: &Sides,
+    n: usize,
+    j: usize,
+    side: u8,
+    letter: u8,
+) -> u32
+    requires { ⌜ (n ≤ 16) × (j < 1024) ⌝ }
+{
+    let mut total: u32 = 0;
+    let mut i: usize = 0;
+    while i < n {
+        if holds(letters, sides, i, j, side, letter) {
+            total = sum(total, cell(weights, i, j) as u32);
+        }
+        i += 1;
+    }
+    total
+}
+
+// How many entries of a side have this letter at column j, whatever their weight.
+fn entries(letters: &Cells, sides: &Sides, n: usize, j: usize, side: u8, letter: u8) -> u32
+    requires { ⌜ (n ≤ 16) × (j < 1024) ⌝ }
+{
+    let mut total: u32 = 0;
+    let mut i: usize = 0;
+    while i < n {
+        if holds(letters, sides, i, j, side, letter) {
+            total = sum(total, 1);
+        }
+        i += 1;
+    }
+    total
+}
+
+// min(W0, W1) of a side: W0 is the weight of its entries with letter 1, W1 of those with letter 0.
+fn side_charge(letters: &Cells, weights: &Cells, sides: &Sides, n: usize, j: usize, side: u8) -> u32
+    requires { ⌜ (n ≤ 16) × (j < 1024) ⌝ }
+{
+    let w0 = weight(letters, weights, sides, n, j, side, 1);
+    let w1 = weight(letters, weights, sides, n, j, side, 0);
+    least(w0, w1)
+}
+
+pub fn charge(letters: &Cells, weights: &Cells, sides: &Sides, n: usize, j: usize) -> u32
+    requires { ⌜ (n ≤ 16) × (j < 1024) ⌝ }
+{
+    let one = side_charge(letters, weights, sides, n, j, 0);
+    let two = side_charge(letters, weights, sides, n, j, 1);
+    sum(one, two)
+}
+
+// The letter of a side: 0 if W0 < W1 and otherwise 1.
+pub fn letter(letters: &Cells, weights: &Cells, sides: &Sides, n: usize, j: usize, side: u8) -> u8
+    requires { ⌜ (n ≤ 16) × (j < 1024) ⌝ }
+{
+    let w0 = weight(letters, weights, sides, n, j, side, 1);
+    let w1 = weight(letters, weights, sides, n, j, side, 0);
+    if w0 < w1 { 0 } else { 1 }
+}
+
+// The entries of a side at column j that differ from its letter.
+pub fn flips(letters: &Cells, sides: &Sides, n: usize, j: usize, side: u8, l: u8) -> u32
+    requires { ⌜ (n ≤ 16) × (j < 1024) ⌝ }
+{
+    if l == 0 {
+        return entries(letters, sides, n, j, side, 1);
+    }
+    entries(letters, sides, n, j, side, 0)
+}

@@ -1,0 +1,119 @@
+// Generated blocks, kind by kind, each against the exhaustive solver.
+ghost use Prim.Native.Nat.{_≤_, _<_};
+use crate::bytes::Bytes;
+use crate::damage;
+use crate::damage::damage;
+use crate::exhaustive::measure;
+use crate::generate::Shape;
+use crate::generate::generate;
+use crate::held::against_search;
+use crate::random::below;
+use crate::report::Tally;
+use crate::report::line;
+use crate::rooms::Rooms;
+use crate::rooms::ample;
+use crate::rooms::lent;
+
+// One less, or 0.
+fn less(x: usize) -> usize {
+    if x == 0 {
+        return 0;
+    }
+    x - 1
+}
+
+// Rooms that are ample, exact, one short or of any size.
+fn some_rooms(block: &[u8], state: &mut u32) -> Rooms
+    ensures { λ r. ⌜ (r .work ≤ 16384) × (r .out ≤ 4096) ⌝ }
+{
+    let s = measure(block);
+    match below(state, 8) {
+        0 => lent(s.work, s.out),
+        1 => lent(less(s.work), s.out),
+        2 => lent(s.work, less(s.out)),
+        3 => lent(below(state, 600), below(state, 60)),
+        _ => ample(),
+    }
+}
+
+// A block in rooms that chance picks.
+fn tried(name: &[u8], bytes: Bytes, size: usize, state: &mut u32, tally: &mut Tally)
+    requires { ⌜ size ≤ 8192 ⌝ }
+{
+    let block = &bytes[..size];
+    let rooms = some_rooms(block, state);
+    against_search(name, block, rooms, tally);
+}
+
+// One block of a shape, damaged in a field.
+fn one(name: &[u8], shape: Shape, field: u8, state: &mut u32, tally: &mut Tally) {
+    let mut b = [0u8; 8192];
+    let whole = generate(&mut b, shape, state);
+    let size = damage(&mut b, whole, field, state);
+    tried(name, b, size, state, tally);
+}
+
+// So many blocks of a shape, damaged in a field.
+fn kind(name: &[u8], shape: Shape, field: u8, blocks: usize, state: &mut u32, all: &mut Tally) {
+    let mut tally = [0usize; 14];
+    let mut i: usize = 0;
+    while i < blocks {
+        one(name, shape, field, state, &mut tally);
+        i += 1;
+    }
+    line(name, &tally, all);
+}
+
+fn sound(name: &[u8], shape: Shape, blocks: usize, state: &mut u32, all: &mut Tally) {
+    kind(name, shape, damage::NONE, blocks, state, all);
+}
+
+fn sound_kinds(state: &mut u32, all: &mut Tally) {
+    let gapless = Shape::new(9, 0, 8);
+    sound(b"gapless", gapless, 600, state, all);
+    let pairs = Shape::new(24, 1, 8).holes(8);
+    sound(b"pairs", pairs, 600, state, all);
+    let holes = Shape::new(9, 1, 8).holes(4).weights(1, 9);
+    sound(b"holes", holes, 600, state, all);
+    let ties = Shape::new(6, 4, 9).holes(2).weights(1, 1);
+    sound(b"ties", ties, 600, state, all);
+    let zero = Shape::new(7, 2, 8).holes(3).weights(0, 1);
+    sound(b"weight 0", zero, 600, state, all);
+    let empty = Shape::new(7, 1, 10).holes(3).weights(0, 3).empty(3);
+    sound(b"empty reads", empty, 600, state, all);
+    let parts = Shape::new(14, 2, 9).holes(3).weights(0, 3).apart();
+    sound(b"parts", parts, 600, state, all);
+    let deep = Shape::new(4, 10, 12).holes(3).weights(0, 9);
+    sound(b"deep", deep, 300, state, all);
+    let crowded = Shape::new(3, 13, 14).holes(4).weights(0, 9);
+    sound(b"crowded", crowded, 100, state, all);
+}
+
+fn damaged_kinds(state: &mut u32, all: &mut Tally) {
+    let full = Shape::new(6, 1, 6).holes(5).weights(0, 9);
+    let some = full.empty(3);
+    kind(b"version damaged", some, damage::VERSION, 150, state, all);
+    kind(b"length field damaged", some, damage::SIZE, 150, state, all);
+    kind(b"m damaged", some, damage::COLUMNS, 300, state, all);
+    kind(b"n damaged", some, damage::READS, 300, state, all);
+    kind(b"L damaged", some, damage::LENGTH, 300, state, all);
+    kind(
+        b"first column damaged",
+        some,
+        damage::FIRST,
+        300,
+        state,
+        all,
+    );
+    kind(b"letter damaged", full, damage::LETTER, 300, state, all);
+    kind(b"weight damaged", full, damage::WEIGHT, 300, state, all);
+    kind(b"cut off", some, damage::CUT, 300, state, all);
+    kind(b"bytes behind", some, damage::BEHIND, 300, state, all);
+}
+
+// The same blocks in every run.
+pub fn run(all: &mut Tally) {
+    let mut state: u32 = 20150601;
+    sound_kinds(&mut state, all);
+    damaged_kinds(&mut state, all);
+}

@@ -146,10 +146,10 @@ pub fn run(all: &mut Tally) {
     let mut tally = [0usize; 14];
     let mut searched = [0usize; 14];
     p1(&mut tally, &mut searched);
-    p1_bytes(&mut tally);
     p2(&mut tally, &mut searched);
     p3(&mut tally, &mut searched);
     p4_to_p9(&mut tally, &mut searched);
+    p1_bytes(&mut tally);
     line(b"examples", &tally, all);
     line(b"examples by search", &searched, all);
 }

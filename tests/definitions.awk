@@ -1,4 +1,4 @@
-# Turns the vectors into equations of antt. A case is four lines and a blank one: name, block in hex, the output, a later output.
+# Turns the vectors into equations of antt. A case is four lines and a blank one: name, block in hex, the output before a tie was no letter, the output.
 function value(s,   i, x) {
   x = 0
   for (i = 1; i <= length(s); i++) x = x * 16 + index("0123456789abcdef", tolower(substr(s, i, 1))) - 1
@@ -12,7 +12,7 @@ function bytes(hex,   i, l) {
 function letters(s,   i, l) {
   l = ""
   if (s == "none") return "[]"
-  for (i = 1; i <= length(s); i++) l = l substr(s, i, 1) " ∷ "
+  for (i = 1; i <= length(s); i++) l = l (substr(s, i, 1) == "-" ? 2 : substr(s, i, 1)) " ∷ "
   return "(" l "[])"
 }
 BEGIN {
@@ -34,7 +34,7 @@ begun {
   if (k != 4) next
   block = line[2]
   m = value(substr(block, 11, 4)); n = value(substr(block, 15, 4))
-  split(line[3], word, /[ |]+/)
+  split(line[4], word, /[ |]+/)
   at = bytes(block)
   if (word[1] == "refused") {
     if (length(block) > 1200) next

@@ -140,11 +140,11 @@ static void search(usize work_len, usize out_len) {
     weigh(best, j, w);
     for (u32 s = 0; s < 2; s++) {
       u8 l = w[s][1] < w[s][0] ? 0 : 1;
-      answer[17 + n + s * m + j] = l;
+      answer[17 + n + s * m + j] = w[s][0] == w[s][1] ? 2 : l;
       for (u32 r = 0; r < n; r++) flips += (best >> r & 1) == s && letter_at(r, j) < 2 && letter_at(r, j) != l;
     }
   }
-  answer[0] = 1;
+  answer[0] = 2;
   byte4(1, 12 + n + 2 * m);
   byte4(5, sums[best][m - 1]);
   byte4(9, flips);

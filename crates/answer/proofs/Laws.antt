@@ -33,20 +33,20 @@ unfolding bytesOf
 long-laid l at x h = laid-join at (bytesOf 2 (x / 65536)) (bytesOf 2 x) l (omega arith) ∙ ap (λ (b : List ℕ). laid at b l) (long-words x)
 
 -- the head's six parts
-first-laid : (l : List ℕ) → 17 ≤ length l → set l 0 1 ≡ laid 0 (1 ∷ []) l
-first-laid l h = sets-eq (1 ∷ []) l 0 (omega arith)
+first-laid : (l : List ℕ) → 17 ≤ length l → set l 0 2 ≡ laid 0 (2 ∷ []) l
+first-laid l h = sets-eq (2 ∷ []) l 0 (omega arith)
 
 pub head-laid : (l : List ℕ) (cost flips n m : ℕ) → 17 ≤ length l
-    → laid 15 (bytesOf 2 m) (laid 13 (bytesOf 2 n) (laid 9 (bytesOf 4 flips) (laid 5 (bytesOf 4 cost) (laid 1 (bytesOf 4 (12 + n + 2 * m)) (set l 0 1)))))
+    → laid 15 (bytesOf 2 m) (laid 13 (bytesOf 2 n) (laid 9 (bytesOf 4 flips) (laid 5 (bytesOf 4 cost) (laid 1 (bytesOf 4 (12 + n + 2 * m)) (set l 0 2)))))
     ≡ laid 0 (headBytes cost flips n m) l
 unfolding bytesOf headBytes
 head-laid l cost flips n m h =
-    let a : List ℕ = 1 ∷ bytesOf 4 (12 + n + 2 * m) in
+    let a : List ℕ = 2 ∷ bytesOf 4 (12 + n + 2 * m) in
     let b : List ℕ = a ++ bytesOf 4 cost in
     let c : List ℕ = b ++ bytesOf 4 flips in
     let d : List ℕ = c ++ bytesOf 2 n in
-    let p1 : laid 1 (bytesOf 4 (12 + n + 2 * m)) (set l 0 1) ≡ laid 0 a l =
-    ap (laid 1 (bytesOf 4 (12 + n + 2 * m))) (first-laid l h) ∙ laid-join 0 (1 ∷ []) (bytesOf 4 (12 + n + 2 * m)) l (omega arith) in
+    let p1 : laid 1 (bytesOf 4 (12 + n + 2 * m)) (set l 0 2) ≡ laid 0 a l =
+    ap (laid 1 (bytesOf 4 (12 + n + 2 * m))) (first-laid l h) ∙ laid-join 0 (2 ∷ []) (bytesOf 4 (12 + n + 2 * m)) l (omega arith) in
     let p2 : laid 5 (bytesOf 4 cost) (laid 0 a l) ≡ laid 0 b l = laid-join 0 a (bytesOf 4 cost) l (omega arith) in
     let p3 : laid 9 (bytesOf 4 flips) (laid 0 b l) ≡ laid 0 c l = laid-join 0 b (bytesOf 4 flips) l (omega arith) in
     let p4 : laid 13 (bytesOf 2 n) (laid 0 c l) ≡ laid 0 d l = laid-join 0 c (bytesOf 2 n) l (omega arith) in

@@ -29,7 +29,7 @@ pub fn put_head(out: &mut [u8], cost: u32, flips: u32, n: usize, m: usize)
     requires { ⌜ (17 ≤ length (now out)) × ((n ≤ 1024) × (m ≤ 1024)) ⌝ }
     ensures { λ _. ⌜ now (out .exit) ≡ laid 0 (headBytes cost flips n m) (now (out .entry)) ⌝ }
 {
-    out[0] = 1;
+    out[0] = 2;
     put_long(out, 1, 12 + n + 2 * m);
     put_long(out, 5, cost as usize);
     put_long(out, 9, flips as usize);

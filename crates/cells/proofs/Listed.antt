@@ -1,6 +1,6 @@
 -- A list whose first p reads are a column's active reads: their pairs give the column's four sums, its letters and its flips.
 use Prim.Native.Nat.{ℕ, _+_, _≤_, _<_}
-use lib.Dec.{ltb}
+use lib.Dec.{ltb, eqb}
 use lib.ListN.{length, getD, take, length-take}
 use lib.Seq.{getD-take}
 use mathlib.Core.Bool.{Bool, true, false, cond, not, true≢false, Bool·beq}
@@ -13,7 +13,7 @@ use Rattle.meaning.specs.Active.{count, read, active, at}
 use Rattle.meaning.specs.Closing.{activeReads}
 use Rattle.meaning.specs.Division.{Side, Division}
 use Rattle.meaning.specs.Charge.{Letter, Sums, against, W}
-use Rattle.meaning.specs.Letters.{letterOf, general, haplotypes, isFlip}
+use Rattle.meaning.specs.Letters.{letterOf, general, tied, reported, haplotypes, isFlip}
 use Rattle.meaning.proofs.Totals.{sum-ext, sum-add, sum-bound}
 use Rattle.meaning.proofs.Lists.{sum-over}
 use Rattle.meaning.proofs.Sums.{at-idle}
@@ -62,6 +62,11 @@ module _ (M : Matrix) (placed : Placed M) (j : ℕ) (list : List ℕ) (p : ℕ) 
       unfolding haplotypes letterOf
       letter-listed s e t a h = h ∙ ap (λ (x : Sums). bit (not (ltb (x t false) (x t true)))) (array-sums e ∙ sums-listed)
 
+      pub reported-listed : (s : List (List ℕ)) → s ≡ arrayOf (sumsWith w p (sidesIn d list)) → (t : Side) (a : ℕ)
+          → a ≡ cond (eqb (sumsOf s t false) (sumsOf s t true)) 2 (bit (not (ltb (sumsOf s t false) (sumsOf s t true)))) → a ≡ reported general (W M d j) t
+      unfolding reported tied letterOf
+      reported-listed s e t a h = h ∙ ap (λ (x : Sums). cond (eqb (x t false) (x t true)) 2 (bit (not (ltb (x t false) (x t true))))) (array-sums e ∙ sums-listed)
+
   -- pairs of marks
   module _ (m : List (List ℕ)) (marked : (i : ℕ) → i < p → getD m i [] ≡ marksOf (at (read M (getD list i 0)) j)) (d : Division) where
     -- each read's mark is on its side
@@ -104,13 +109,14 @@ module _ (M : Matrix) (placed : Placed M) (j : ℕ) (list : List ℕ) (p : ℕ) 
         omega (arith, flips-places h, sum-bound p 1 {f = λ i. bit (isFlip (h (d (getD list i 0))) (at (read M (getD list i 0)) j))} (λ i l. bit-small (isFlip (h (d (getD list i 0))) (at (read M (getD list i 0)) j))))
 
     -- the letters, and each side's marks against its letter
-    pub lettered : (n : List (List ℕ)) → n ≡ arrayOf (sumsWith m p (sidesIn d list)) → p ≤ 12 → (a b x y : ℕ)
+    pub lettered : (n : List (List ℕ)) → n ≡ arrayOf (sumsWith m p (sidesIn d list)) → p ≤ 12 → (f g a b x y : ℕ)
+        → f ≡ reported general (W M d j) false → g ≡ reported general (W M d j) true
         → a ≡ bit (haplotypes general M d false j) → b ≡ bit (haplotypes general M d true j)
         → ((l : Letter) → a ≡ bit l → x ≡ pairAt (getD n 0 []) l) → ((l : Letter) → b ≡ bit l → y ≡ pairAt (getD n 1 []) l)
-        → Lettered M d j (record { first = a; second = b; flips = x + y })
-    lettered n e few a b x y ea eb hx hy =
+        → Lettered M d j (record { first = f; second = g; flips = x + y })
+    lettered n e few f g a b x y ef eg ea eb hx hy =
         let h : Side → Letter = λ t. haplotypes general M d t j in
         let N : Sums = sumsWith m p (sidesIn d list) in
         let same : sumsOf n ≡ N = array-sums e in
         let sum : x + y ≡ N false (h false) + N true (h true) = ap₂ _+_ (hx (h false) ea ∙ ap (λ (z : Sums). z false (h false)) same) (hy (h true) eb ∙ ap (λ (z : Sums). z true (h true)) same) in
-        record { first-is = ea; second-is = eb; flips-are = sum ∙ flips-listed h; flips-few = omega (arith, flips-few h) }
+        record { first-is = ef; second-is = eg; flips-are = sum ∙ flips-listed h; flips-few = omega (arith, flips-few h) }

@@ -8,7 +8,8 @@ use Rattle.meaning.specs.Numbers.{bit, sumTo}
 use Rattle.meaning.specs.Block.{Matrix, readsField, matrixOf}
 use Rattle.meaning.specs.Active.{count, read, active, at}
 use Rattle.meaning.specs.Division.{Division}
-use Rattle.meaning.specs.Letters.{general, haplotypes, isFlip}
+use Rattle.meaning.specs.Charge.{W}
+use Rattle.meaning.specs.Letters.{general, reported, haplotypes, isFlip}
 use Rattle.meaning.specs.Refusals.{blockRefusal}
 use Rattle.block.specs.Places.{Noted}
 use Rattle.cells.specs.declared.Letters.{Letters}
@@ -25,9 +26,9 @@ pub record Laid (b start first after list : List ℕ) (p j : ℕ) : Type 0 where
   pub each-read : (i : ℕ) → i < p → getD list i 0 < readsField b
   pub each-active : (i : ℕ) → i < p → active (read (matrixOf b) (getD list i 0)) j ≡ true
 
--- the letters of column j and the flips against them, for a division
+-- the letters that are reported of column j, and the flips against its letters, for a division
 pub record Lettered (M : Matrix) (d : Division) (j : ℕ) (r : Letters) : Type 0 where
-  pub first-is : r .first ≡ bit (haplotypes general M d false j)
-  pub second-is : r .second ≡ bit (haplotypes general M d true j)
+  pub first-is : r .first ≡ reported general (W M d j) false
+  pub second-is : r .second ≡ reported general (W M d j) true
   pub flips-are : r .flips ≡ sumTo (count M) (λ q. bit (isFlip (haplotypes general M d (d q) j) (at (read M q) j)))
   pub flips-few : r .flips ≤ 12

@@ -1,9 +1,9 @@
 // A column's cells: what each of its active reads has there, and the letters and flips that they give.
 ghost use mathlib.Core.Path.{_≡_};
-ghost use mathlib.Core.Bool.{false, true, not};
+ghost use mathlib.Core.Bool.{false, true, cond, not};
 ghost use mathlib.Core.List.{[]};
 ghost use Prim.Native.Nat.{ℕ, _+_, _*_, _≤_, _<_};
-ghost use lib.Dec.{ltb};
+ghost use lib.Dec.{ltb, eqb};
 ghost use lib.ListN.{length, getD, take};
 ghost use Rattle.meaning.specs.Numbers.{bit};
 ghost use Rattle.meaning.specs.Block.{cellAt, matrixOf, readsField};
@@ -16,7 +16,7 @@ ghost use Rattle.column.specs.Sums.{pairOf, pairAt, LightPairs, Small, sumsOf, 
 ghost use Rattle.cells.specs.Pairs.{marksOf, cellPair, addedSums, sidesIn};
 ghost use Rattle.cells.specs.Laid.{Laid, Lettered};
 
-// The letters of the two sides at a column, and how many entries differ from their side's letter.
+// The letters that are reported of the two sides at a column, and how many entries differ from their side's letter.
 pub struct Letters {
     pub first: u8,
     pub second: u8,
@@ -153,6 +153,13 @@ fn letter(w0: u32, w1: u32) -> u8
     if w0 < w1 { 0 } else { 1 }
 }
 
+// What is reported of a side: 2 where W0 = W1, otherwise its letter.
+fn reported(w0: u32, w1: u32) -> u8
+    ensures { λ r. ⌜ r ≡ cond (eqb w0 w1) 2 (bit (not (ltb w0 w1))) ⌝ }
+{
+    if w0 == w1 { 2 } else { letter(w0, w1) }
+}
+
 // A side's marks against its letter.
 fn against(n: [u32; 2], letter: u8) -> u32
     ensures { λ r. ⌜ ((l : Letter) → letter ≡ bit l → r ≡ pairAt n l) ⌝ }
@@ -160,7 +167,7 @@ fn against(n: [u32; 2], letter: u8) -> u32
     if letter == 0 { n[0] } else { n[1] }
 }
 
-// The letters of column j and the flips against them; the list's first p reads are the column's active reads.
+// The letters that are reported of column j, and the flips against its letters; the list's first p reads are the column's active reads.
 pub fn letters_at(
     block: &[u8],
     start: &[u32],
@@ -182,9 +189,11 @@ pub fn letters_at(
     let n = by_sides(&m, list, p, sides);
     let a = letter(s[0][0], s[0][1]);
     let b = letter(s[1][0], s[1][1]);
+    let f = reported(s[0][0], s[0][1]);
+    let g = reported(s[1][0], s[1][1]);
     Letters {
-        first: a,
-        second: b,
+        first: f,
+        second: g,
         flips: against(n[0], a) + against(n[1], b),
     }
 }

@@ -3,6 +3,7 @@ pub mod Lists
 pub mod Least
 pub mod Sums
 pub mod Modes
+pub mod Ties
 pub mod Closing
 pub mod Best
 pub mod Column

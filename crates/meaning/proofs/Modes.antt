@@ -19,6 +19,8 @@ pub record Fair (mode : Mode) : Type 0 where
   -- the two letters are allowed, and cost the charge
   pub lawful : (w : Sums) → mode .allowed (mode .letter w false) (mode .letter w true) ≡ true
   pub met : (w : Sums) → w false (mode .letter w false) + w true (mode .letter w true) ≡ mode .charged w
+  -- each letter has the lesser of the two sums that it is chosen from
+  pub lesser : (w : Sums) (s : Side) → mode .choice w s (mode .letter w s) ≡ min (mode .choice w s false) (mode .choice w s true)
   -- no two allowed letters cost less
   pub below : (w : Sums) (a b : Letter) → mode .allowed a b ≡ true → mode .charged w ≤ w false a + w true b
 
@@ -47,7 +49,7 @@ unfolding charge
 charge-letters w = ap₂ _+_ (letter-min w false) (letter-min w true)
 
 pub general-fair : Fair general
-general-fair = record { even = charge-swap; lawful = λ w. refl; met = charge-letters; below = λ w a b h. charge-below w a b }
+general-fair = record { even = charge-swap; lawful = λ w. refl; met = charge-letters; lesser = letter-min; below = λ w a b h. charge-below w a b }
 
 module _ (mode : Mode) (fair : Fair mode) where
   -- no two strings of allowed letters cost less than the division's cost, and its own haplotypes cost just that

@@ -8,13 +8,13 @@ use Rattle.meaning.specs.Numbers.{bit, run, bytesOf}
 use Rattle.meaning.specs.Block.{Matrix}
 use Rattle.meaning.specs.Active.{count}
 use Rattle.meaning.specs.Division.{Side, Division}
-use Rattle.meaning.specs.Charge.{leastCost, best}
-use Rattle.meaning.specs.Letters.{Mode, Haplotypes, haplotypes, flips}
+use Rattle.meaning.specs.Charge.{W, leastCost, best}
+use Rattle.meaning.specs.Letters.{Mode, reported, haplotypes, flips}
 
--- version 1; the number of bytes that follow byte 4; cost; number of flips; n; m; n sides; m letters of each haplotype
+-- version 2; the number of bytes that follow byte 4; cost; number of flips; n; m; n sides; m letters of each haplotype
 unfoldable pub answerBytes : ℕ → ℕ → List ℕ → List ℕ → List ℕ → List ℕ
 answerBytes cost flipped sides hap1 hap2 =
-    (1 ∷ bytesOf 4 (12 + length sides + 2 * length hap1))
+    (2 ∷ bytesOf 4 (12 + length sides + 2 * length hap1))
     ++ (bytesOf 4 cost
     ++ (bytesOf 4 flipped
     ++ (bytesOf 2 (length sides)
@@ -31,15 +31,14 @@ sidesOf M d = run 0 (count M) (λ r. bit (d r))
 abbrev pub divisionOf : List ℕ → Division
 divisionOf sides r = eqb (getD sides r 0) 1
 
--- one byte for each letter of a side's haplotype
-unfoldable pub lettersOf : Matrix → Haplotypes → Side → List ℕ
-lettersOf M h s = run 0 (M .columns) (λ j. bit (h s j))
+-- one byte for each letter of a side that is reported for a division
+unfoldable pub lettersOf : Mode → Matrix → Division → Side → List ℕ
+lettersOf mode M d s = run 0 (M .columns) (λ j. reported mode (W M d j) s)
 
 unfoldable pub answer : Mode → Matrix → List ℕ
 answer mode M =
     let d = best (mode .charged) M in
-    let h = haplotypes mode M d in
-    answerBytes (leastCost (mode .charged) M) (flips M d h) (sidesOf M d) (lettersOf M h false) (lettersOf M h true)
+    answerBytes (leastCost (mode .charged) M) (flips M d (haplotypes mode M d)) (sidesOf M d) (lettersOf mode M d false) (lettersOf mode M d true)
 
 -- its bytes
 unfoldable pub answerSize : Matrix → ℕ

@@ -1,5 +1,5 @@
 -- Worked examples, proved by computing.
--- P1 to P9, as one list under one statement: each block, called with room for the table and the answer and one more of each, gives number 0
+-- P1 to P9 and one more, as one list under one statement: each block, called with room for the table and the answer and one more of each, gives number 0
 -- and the cost, and leaves the table and the answer block in front of what the rooms held. Then one refusal of each number.
 use Prim.Native.Nat.{ℕ, suc}
 use mathlib.Core.Path.{_≡_, refl}
@@ -39,7 +39,7 @@ p1 =
       flips = 1;
       sides = 1 ∷ 0 ∷ 0 ∷ 0 ∷ [];
       hap1 = 1 ∷ 0 ∷ [];
-      hap2 = 0 ∷ 1 ∷ [];
+      hap2 = 0 ∷ 2 ∷ [];
       entries = 5 ∷ 3 ∷ 0 ∷ 5 ∷ 1 ∷ 3 ∷ 1 ∷ 4 ∷ [];
     }
 
@@ -64,8 +64,8 @@ p3 =
       cost = 0;
       flips = 0;
       sides = [];
-      hap1 = 1 ∷ [];
-      hap2 = 1 ∷ [];
+      hap1 = 2 ∷ [];
+      hap2 = 2 ∷ [];
       entries = 0 ∷ [];
     }
 
@@ -78,7 +78,7 @@ p4 =
       flips = 0;
       sides = 0 ∷ [];
       hap1 = 0 ∷ [];
-      hap2 = 1 ∷ [];
+      hap2 = 2 ∷ [];
       entries = 0 ∷ [];
     }
 
@@ -104,7 +104,7 @@ p6 =
       flips = 0;
       sides = 0 ∷ 0 ∷ [];
       hap1 = 0 ∷ [];
-      hap2 = 1 ∷ [];
+      hap2 = 2 ∷ [];
       entries = 0 ∷ 0 ∷ [];
     }
 
@@ -116,8 +116,8 @@ p7 =
       cost = 0;
       flips = 1;
       sides = 0 ∷ 0 ∷ [];
-      hap1 = 1 ∷ [];
-      hap2 = 1 ∷ [];
+      hap1 = 2 ∷ [];
+      hap2 = 2 ∷ [];
       entries = 0 ∷ 0 ∷ [];
     }
 
@@ -129,8 +129,8 @@ p8 =
       cost = 0;
       flips = 0;
       sides = 0 ∷ [];
-      hap1 = 1 ∷ 1 ∷ [];
-      hap2 = 1 ∷ 1 ∷ [];
+      hap1 = 1 ∷ 2 ∷ [];
+      hap2 = 2 ∷ 2 ∷ [];
       entries = 0 ∷ 0 ∷ [];
     }
 
@@ -143,16 +143,29 @@ p9 =
       flips = 0;
       sides = 0 ∷ 0 ∷ [];
       hap1 = 0 ∷ [];
-      hap2 = 1 ∷ [];
+      hap2 = 2 ∷ [];
+      entries = 0 ∷ [];
+    }
+
+-- 0:0, a tie by its weight: its letter is 1, so the 0 is a flip
+abbrev pub p10 : Example
+p10 =
+    record {
+      block = 1 ∷ 0 ∷ 0 ∷ 0 ∷ 10 ∷ 0 ∷ 1 ∷ 0 ∷ 1 ∷ 0 ∷ 4 ∷ 0 ∷ 0 ∷ 0 ∷ 0 ∷ [];
+      cost = 0;
+      flips = 1;
+      sides = 0 ∷ [];
+      hap1 = 2 ∷ [];
+      hap2 = 2 ∷ [];
       entries = 0 ∷ [];
     }
 
 abbrev pub examples : List Example
-examples = p1 ∷ p2 ∷ p3 ∷ p4 ∷ p5 ∷ p6 ∷ p7 ∷ p8 ∷ p9 ∷ []
+examples = p1 ∷ p2 ∷ p3 ∷ p4 ∷ p5 ∷ p6 ∷ p7 ∷ p8 ∷ p9 ∷ p10 ∷ []
 
 pub examples-hold : All Holds examples
 unfolding opened
-examples-hold = (refl, (refl, (refl, (refl, (refl, (refl, (refl, (refl, (refl, tt)))))))))
+examples-hold = (refl, (refl, (refl, (refl, (refl, (refl, (refl, (refl, (refl, (refl, tt))))))))))
 
 -- A refusal of each number, with the rooms at which it is given: both stay as they were
 pub record Refused : Type 0 where

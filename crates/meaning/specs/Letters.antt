@@ -8,10 +8,11 @@ use Rattle.meaning.specs.Active.{count, read, at}
 use Rattle.meaning.specs.Division.{Side, Division}
 use Rattle.meaning.specs.Charge.{Letter, Sums, against, W, charge}
 
--- How a column is charged, how its two sides get their letters, and which two letters they may have there.
--- Document 000's all-heterozygous mode is another value of this record.
+-- How a column is charged, between which two sums each side's letter is chosen, which letter it is, and which two letters the
+-- sides may have there. Document 000's all-heterozygous mode is another value of this record.
 pub record Mode : Type 0 where
   pub charged : Sums → ℕ
+  pub choice : Sums → Side → Letter → ℕ
   pub letter : Sums → Side → Letter
   pub allowed : Letter → Letter → Bool
 
@@ -20,13 +21,21 @@ unfoldable pub letterOf : Sums → Side → Letter
 letterOf w s = not (ltb (w s false) (w s true))
 
 abbrev pub general : Mode
-general = record { charged = charge; letter = letterOf; allowed = λ a b. true }
+general = record { charged = charge; choice = λ w. w; letter = letterOf; allowed = λ a b. true }
+
+-- whether the two sums that a side's letter is chosen from are equal
+unfoldable pub tied : Mode → Sums → Side → Bool
+tied mode w s = eqb (mode .choice w s false) (mode .choice w s true)
+
+-- the letter that is reported: 2, printed `-`, where the two sums are equal
+unfoldable pub reported : Mode → Sums → Side → ℕ
+reported mode w s = cond (tied mode w s) 2 (bit (mode .letter w s))
 
 -- two strings of letters, one for each side, by column
 abbrev pub Haplotypes : Type 0
 Haplotypes = Side → ℕ → Letter
 
--- the letters that a division gets
+-- the letters that a division gets; flips, and what is corrected, go by these
 unfoldable pub haplotypes : Mode → Matrix → Division → Haplotypes
 haplotypes mode M d s j = mode .letter (W M d j) s
 

@@ -11,9 +11,9 @@ use borrow.Author.Tests.{eqb-true, eqb-false, lt-ltb, le-ltb}
 use Rattle.meaning.specs.Numbers.{bit}
 use Rattle.meaning.specs.Block.{columnsField, readsField, readsPart, cellSize, matrixOf}
 use Rattle.meaning.specs.Active.{count}
-use Rattle.meaning.specs.Division.{Division}
-use Rattle.meaning.specs.Charge.{charge, leastCost, best}
-use Rattle.meaning.specs.Letters.{general, Haplotypes, haplotypes, flips}
+use Rattle.meaning.specs.Division.{Side, Division}
+use Rattle.meaning.specs.Charge.{W, charge, leastCost, best}
+use Rattle.meaning.specs.Letters.{general, reported, haplotypes, flips}
 use Rattle.meaning.specs.Answer.{sidesOf, lettersOf, answer}
 use Rattle.meaning.specs.Refusals.{refusal}
 use Rattle.meaning.specs.Call.{Result, over, accepts, refuses, call}
@@ -30,12 +30,12 @@ module _ (b work out : List ℕ) where
   unfolding answer sidesOf lettersOf matrixOf
   accepted-whole a =
       let d : Division = best charge (matrixOf b) in
-      let h : Haplotypes = haplotypes general (matrixOf b) d in
-      whole (leastCost charge (matrixOf b)) (flips (matrixOf b) d h) (sidesOf (matrixOf b) d) (lettersOf (matrixOf b) h false) (lettersOf (matrixOf b) h true)
+      let letters : Side → ℕ → ℕ = λ s j. reported general (W (matrixOf b) d j) s in
+      whole (leastCost charge (matrixOf b)) (flips (matrixOf b) d (haplotypes general (matrixOf b) d)) (sidesOf (matrixOf b) d) (lettersOf general (matrixOf b) d false) (lettersOf general (matrixOf b) d true)
       (drop (length (answer general (matrixOf b))) out)
       (le-trans (le-of-eq (length-run 0 (count (matrixOf b)) (λ r. bit (d r)) ∙ length-reads (cellSize b) (readsField b) (readsPart b))) (a .block .head .few-reads))
-      (le-trans (le-of-eq (length-run 0 (columnsField b) (λ j. bit (h false j)))) (a .block .head .few-columns))
-      (length-run 0 (columnsField b) (λ j. bit (h true j)) ∙ sym (length-run 0 (columnsField b) (λ j. bit (h false j))))
+      (le-trans (le-of-eq (length-run 0 (columnsField b) (letters false))) (a .block .head .few-columns))
+      (length-run 0 (columnsField b) (letters true) ∙ sym (length-run 0 (columnsField b) (letters false)))
 
   -- number 0 is given only on acceptance, and the output then starts with the answer block
   pub whole-out : call b work out .number ≡ 0 → Whole (call b work out .out)

@@ -14,10 +14,10 @@ use Rattle.meaning.specs.Numbers.{bit, run, has}
 use Rattle.meaning.specs.Block.{Matrix}
 use Rattle.meaning.specs.Active.{count, at}
 use Rattle.meaning.specs.Closing.{closing, activeReads}
-use Rattle.meaning.specs.Division.{Division, allZero}
-use Rattle.meaning.specs.Charge.{charge, leastCost, best}
-use Rattle.meaning.specs.Letters.{general, Haplotypes, haplotypes, flips}
-use Rattle.meaning.specs.Answer.{sidesOf, divisionOf, lettersOf, answer}
+use Rattle.meaning.specs.Division.{Side, Division, allZero}
+use Rattle.meaning.specs.Charge.{W, charge, leastCost, best}
+use Rattle.meaning.specs.Letters.{general, reported, haplotypes, flips}
+use Rattle.meaning.specs.Answer.{answerBytes, sidesOf, divisionOf, lettersOf, answer}
 use Rattle.meaning.specs.Table.{column}
 use Rattle.meaning.specs.Rule.{columnOf, leastEntry, wayBack}
 use Rattle.meaning.specs.Call.{over, laid}
@@ -111,16 +111,16 @@ sides-list M sides d e h =
 -- all parts together
 pub answered : (M : Matrix) (n m cost flipped : ℕ) (old : List ℕ) → n ≡ count M → m ≡ M .columns → 17 + n + 2 * m ≤ length old
     → cost ≡ leastCost charge M → flipped ≡ flips M (best charge M) (haplotypes general M (best charge M))
-    → laid 0 (headBytes cost flipped n m) (laid (17 + n + m) (lettersOf M (haplotypes general M (best charge M)) true)
-    (laid (17 + n) (lettersOf M (haplotypes general M (best charge M)) false) (laid 17 (sidesOf M (best charge M)) old)))
+    → laid 0 (headBytes cost flipped n m) (laid (17 + n + m) (lettersOf general M (best charge M) true)
+    (laid (17 + n) (lettersOf general M (best charge M) false) (laid 17 (sidesOf M (best charge M)) old)))
     ≡ over (answer general M) old
 unfolding answer sidesOf lettersOf
 answered M n m cost flipped old e f fits c g =
     let d : Division = best charge M in
-    let h : Haplotypes = haplotypes general M d in
-    answer-laid cost flipped n m (sidesOf M d) (lettersOf M h false) (lettersOf M h true) old
-    (length-run 0 (count M) (λ r. bit (d r)) ∙ sym e) (length-run 0 (M .columns) (λ j. bit (h false j)) ∙ sym f) (length-run 0 (M .columns) (λ j. bit (h true j)) ∙ sym f) fits
-    ∙ ap₂ (λ (x y : ℕ). over (Rattle.meaning.specs.Answer.answerBytes x y (sidesOf M d) (lettersOf M h false) (lettersOf M h true)) old) c g
+    let letters : Side → ℕ → ℕ = λ s j. reported general (W M d j) s in
+    answer-laid cost flipped n m (sidesOf M d) (lettersOf general M d false) (lettersOf general M d true) old
+    (length-run 0 (count M) (λ r. bit (d r)) ∙ sym e) (length-run 0 (M .columns) (letters false) ∙ sym f) (length-run 0 (M .columns) (letters true) ∙ sym f) fits
+    ∙ ap₂ (λ (x y : ℕ). over (answerBytes x y (sidesOf M d) (lettersOf general M d false) (lettersOf general M d true)) old) c g
 
 -- the part of the output that the sides are
 pub sides-laid : (n : ℕ) (sides old : List ℕ) → length sides ≡ n → 17 + n ≤ length old → take 17 old ++ (sides ++ drop (17 + n - 17) (drop 17 old)) ≡ laid 17 sides old
@@ -135,7 +135,7 @@ sides-read n sides old e l =
 pub finished : (M : Matrix) (n m cost flipped : ℕ) (old o1 o2 o3 : List ℕ) → n ≡ count M → m ≡ M .columns → 17 + n + 2 * m ≤ length old
     → o1 ≡ laid 17 (sidesOf M (best charge M)) old
     → flipped ≡ flips M (divisionOf (take n (drop 17 o1))) (haplotypes general M (divisionOf (take n (drop 17 o1))))
-    → o2 ≡ laid (17 + n + m) (lettersOf M (haplotypes general M (divisionOf (take n (drop 17 o1)))) true) (laid (17 + n) (lettersOf M (haplotypes general M (divisionOf (take n (drop 17 o1)))) false) o1)
+    → o2 ≡ laid (17 + n + m) (lettersOf general M (divisionOf (take n (drop 17 o1))) true) (laid (17 + n) (lettersOf general M (divisionOf (take n (drop 17 o1))) false) o1)
     → cost ≡ leastCost charge M → o3 ≡ laid 0 (headBytes cost flipped n m) o2 → o3 ≡ over (answer general M) old
 unfolding sidesOf
 finished M n m cost flipped old o1 o2 o3 e f fits a b c d g =
@@ -144,7 +144,7 @@ finished M n m cost flipped old o1 o2 o3 e f fits a b c d g =
     ap (λ (x : List ℕ). divisionOf (take n (drop 17 x))) a ∙ ap divisionOf (sides-read n (sidesOf M (best charge M)) old k (omega arith)) ∙ sides-division M in
     g
     ∙ ap (laid 0 (headBytes cost flipped n m))
-    (c ∙ ap₂ (λ (x : Division) (y : List ℕ). laid (17 + n + m) (lettersOf M (haplotypes general M x) true) (laid (17 + n) (lettersOf M (haplotypes general M x) false) y)) s a)
+    (c ∙ ap₂ (λ (x : Division) (y : List ℕ). laid (17 + n + m) (lettersOf general M x true) (laid (17 + n) (lettersOf general M x false) y)) s a)
     ∙ answered M n m cost flipped old e f fits d (b ∙ ap (λ (x : Division). flips M x (haplotypes general M x)) s)
 
 -- the sides' part keeps its length, and so does the output

@@ -11,7 +11,8 @@ use Rattle.meaning.specs.Block.{Matrix, columnsField, readsField, matrixOf}
 use Rattle.meaning.specs.Active.{count, read, at}
 use Rattle.meaning.specs.Closing.{activeReads}
 use Rattle.meaning.specs.Division.{Side, Division}
-use Rattle.meaning.specs.Letters.{general, haplotypes, isFlip, flips}
+use Rattle.meaning.specs.Charge.{W}
+use Rattle.meaning.specs.Letters.{general, reported, haplotypes, isFlip, flips}
 use Rattle.meaning.specs.Answer.{divisionOf, lettersOf}
 use Rattle.meaning.specs.Call.{laid}
 use Rattle.column.proofs.Laws.{leaf-more}
@@ -41,9 +42,9 @@ pub letters-fit : (b start first after counts lists : List ℕ) (ready : Ready b
 letters-fit b start first after counts lists ready j l p q n out e h =
     (cells-laid b start first after counts lists ready j l p q, (list-is b start first after counts lists ready j l p q, omega (arith, sides-length n out h)))
 
--- a column's letter of a side, and its flips
+-- what is reported of a side at a column, and the column's flips
 abbrev pub letterAt : Matrix → Division → Side → ℕ → ℕ
-letterAt M d s j = bit (haplotypes general M d s j)
+letterAt M d s j = reported general (W M d j) s
 
 abbrev pub flipsAt : Matrix → Division → ℕ → ℕ
 flipsAt M d j = sumTo (count M) (λ q. bit (isFlip (haplotypes general M d (d q) j) (at (read M q) j)))
@@ -101,7 +102,7 @@ module _ (M : Matrix) (n m : ℕ) (old : List ℕ) (fits : 17 + n + 2 * m ≤ le
     -- all columns done
     pub written-all : m ≡ M .columns → m ≤ j
         → (flipped ≡ flips M d (haplotypes general M d))
-        × (out ≡ laid (17 + n + m) (lettersOf M (haplotypes general M d) true) (laid (17 + n) (lettersOf M (haplotypes general M d) false) old))
+        × (out ≡ laid (17 + n + m) (lettersOf general M d true) (laid (17 + n) (lettersOf general M d false) old))
     unfolding flips lettersOf
     written-all e l =
         let k : j ≡ M .columns = omega (arith, w .inside) in (

@@ -274,7 +274,7 @@ fn least_last(
     back::least_from(&work[from..to], 0, 1)
 }
 
-// The letters of column j and the flips against them, by the sides that stand in the output.
+// The letters of column j that are reported, and the flips, by the sides that stand in the output.
 fn column_letters(
     block: &[u8],
     start: &[u32],
@@ -312,7 +312,7 @@ fn write_letters(
     requires { ⌜ Ready (now block) (now start) (now first) (now end) (now count) (now lists) ⌝ }
     requires { ⌜ (m ≡ columnsField (now block)) × (n ≡ readsField (now block)) × (17 + n + 2 * m ≤ length (now out)) ⌝ }
     ensures { λ r. ⌜ r ≡ flips (matrixOf (now (block .entry))) (divisionOf (take n (drop 17 (now (out .entry))))) (haplotypes general (matrixOf (now (block .entry))) (divisionOf (take n (drop 17 (now (out .entry)))))) ⌝ }
-    ensures { λ _. ⌜ now (out .exit) ≡ laid (17 + n + m) (lettersOf (matrixOf (now (block .entry))) (haplotypes general (matrixOf (now (block .entry))) (divisionOf (take n (drop 17 (now (out .entry)))))) true) (laid (17 + n) (lettersOf (matrixOf (now (block .entry))) (haplotypes general (matrixOf (now (block .entry))) (divisionOf (take n (drop 17 (now (out .entry)))))) false) (now (out .entry))) ⌝ }
+    ensures { λ _. ⌜ now (out .exit) ≡ laid (17 + n + m) (lettersOf general (matrixOf (now (block .entry))) (divisionOf (take n (drop 17 (now (out .entry))))) true) (laid (17 + n) (lettersOf general (matrixOf (now (block .entry))) (divisionOf (take n (drop 17 (now (out .entry))))) false) (now (out .entry))) ⌝ }
 {
     let mut flips: u32 = 0;
     let mut j: usize = 0;

@@ -7,30 +7,30 @@ use Rattle.text.specs.Text.{digits, answerText, refusalText, textOf}
 
 -- P1's answer block: cost 1, 1 flip, 4 sides, 2 columns
 abbrev pub answerP1 : List ℕ
-answerP1 = 1 ∷ 0 ∷ 0 ∷ 0 ∷ 20 ∷ 0 ∷ 0 ∷ 0 ∷ 1 ∷ 0 ∷ 0 ∷ 0 ∷ 1 ∷ 0 ∷ 4 ∷ 0 ∷ 2 ∷ 1 ∷ 0 ∷ 0 ∷ 0 ∷ 1 ∷ 0 ∷ 0 ∷ 1 ∷ []
+answerP1 = 2 ∷ 0 ∷ 0 ∷ 0 ∷ 20 ∷ 0 ∷ 0 ∷ 0 ∷ 1 ∷ 0 ∷ 0 ∷ 0 ∷ 1 ∷ 0 ∷ 4 ∷ 0 ∷ 2 ∷ 1 ∷ 0 ∷ 0 ∷ 0 ∷ 1 ∷ 0 ∷ 0 ∷ 2 ∷ []
 
 -- P3's: cost 0, no flips, no reads, 1 column
 abbrev pub answerP3 : List ℕ
-answerP3 = 1 ∷ 0 ∷ 0 ∷ 0 ∷ 14 ∷ 0 ∷ 0 ∷ 0 ∷ 0 ∷ 0 ∷ 0 ∷ 0 ∷ 0 ∷ 0 ∷ 0 ∷ 0 ∷ 1 ∷ 1 ∷ 1 ∷ []
+answerP3 = 2 ∷ 0 ∷ 0 ∷ 0 ∷ 14 ∷ 0 ∷ 0 ∷ 0 ∷ 0 ∷ 0 ∷ 0 ∷ 0 ∷ 0 ∷ 0 ∷ 0 ∷ 0 ∷ 1 ∷ 2 ∷ 2 ∷ []
 
--- `cost 1`, `flips 1`, `sides 1000`, `hap1 10`, `hap2 01`
+-- `cost 1`, `flips 1`, `sides 1000`, `hap1 10`, `hap2 0-`
 abbrev pub textP1 : List ℕ
 textP1 =
     99 ∷ 111 ∷ 115 ∷ 116 ∷ 32 ∷ 49 ∷ 10
     ∷ 102 ∷ 108 ∷ 105 ∷ 112 ∷ 115 ∷ 32 ∷ 49 ∷ 10
     ∷ 115 ∷ 105 ∷ 100 ∷ 101 ∷ 115 ∷ 32 ∷ 49 ∷ 48 ∷ 48 ∷ 48 ∷ 10
     ∷ 104 ∷ 97 ∷ 112 ∷ 49 ∷ 32 ∷ 49 ∷ 48 ∷ 10
-    ∷ 104 ∷ 97 ∷ 112 ∷ 50 ∷ 32 ∷ 48 ∷ 49 ∷ 10
+    ∷ 104 ∷ 97 ∷ 112 ∷ 50 ∷ 32 ∷ 48 ∷ 45 ∷ 10
     ∷ []
 
--- `cost 0`, `flips 0`, `sides none`, `hap1 1`, `hap2 1`
+-- `cost 0`, `flips 0`, `sides none`, `hap1 -`, `hap2 -`
 abbrev pub textP3 : List ℕ
 textP3 =
     99 ∷ 111 ∷ 115 ∷ 116 ∷ 32 ∷ 48 ∷ 10
     ∷ 102 ∷ 108 ∷ 105 ∷ 112 ∷ 115 ∷ 32 ∷ 48 ∷ 10
     ∷ 115 ∷ 105 ∷ 100 ∷ 101 ∷ 115 ∷ 32 ∷ 110 ∷ 111 ∷ 110 ∷ 101 ∷ 10
-    ∷ 104 ∷ 97 ∷ 112 ∷ 49 ∷ 32 ∷ 49 ∷ 10
-    ∷ 104 ∷ 97 ∷ 112 ∷ 50 ∷ 32 ∷ 49 ∷ 10
+    ∷ 104 ∷ 97 ∷ 112 ∷ 49 ∷ 32 ∷ 45 ∷ 10
+    ∷ 104 ∷ 97 ∷ 112 ∷ 50 ∷ 32 ∷ 45 ∷ 10
     ∷ []
 
 pub p1-printed : textOf 0 1 answerP1 ≡ textP1

@@ -15,9 +15,9 @@ digits (suc f) x = cond (ltb x 10) ((48 + x) ∷ []) (digits f (x / 10) ++ ((48 
 abbrev pub decimal : ℕ → List ℕ
 decimal x = digits 10 x
 
--- the character of a side or a letter
+-- the character of a side or a letter; 2 is no letter, printed `-`
 abbrev pub mark : ℕ → ℕ
-mark x = cond (eqb x 0) 48 49
+mark x = cond (eqb x 0) 48 (cond (eqb x 1) 49 45)
 
 -- `cost `
 abbrev pub costWord : List ℕ

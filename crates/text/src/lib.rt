@@ -15,11 +15,14 @@ fn digit(x: u32) -> u8
     b'0' + x as u8
 }
 
-// The character of a side or a letter.
+// The character of a side or a letter; 2 is no letter.
 fn mark_of(x: u8) -> u8
     ensures { λ r. ⌜ r ≡ mark x ⌝ }
 {
-    if x == 0 { b'0' } else { b'1' }
+    if x == 0 {
+        return b'0';
+    }
+    if x == 1 { b'1' } else { b'-' }
 }
 
 // Each `put_..` writes its piece from `at` on and answers where the piece ends.

@@ -8,7 +8,7 @@ use Rattle.meaning.specs.Answer.{divisionOf}
 use Rattle.meaning.proofs.Formed.{formed, formed-placed}
 use Rattle.cells.specs.Laid.{Lettered}
 use Rattle.cells.proofs.Sides.{light-up}
-use Rattle.cells.proofs.Listed.{letter-listed, lettered}
+use Rattle.cells.proofs.Listed.{letter-listed, reported-listed, lettered}
 use Rattle.cells.proofs.letters_at.Statement.{statement}
 use Rattle.cells.proofs.letters_at.Tie as tie
 
@@ -62,6 +62,36 @@ index-2-letter-4 c = search needs
 letter-requires-2 : tie.Need-letter-requires-2
 letter-requires-2 c κs = search needs
 
+index-1-reported : tie.Need-index-1-reported
+index-1-reported c = search needs
+
+index-2-reported : tie.Need-index-2-reported
+index-2-reported c = search needs
+
+index-1-reported-2 : tie.Need-index-1-reported-2
+index-1-reported-2 c = search needs
+
+index-2-reported-2 : tie.Need-index-2-reported-2
+index-2-reported-2 c = search needs
+
+reported-requires : tie.Need-reported-requires
+reported-requires c κs = search needs
+
+index-1-reported-3 : tie.Need-index-1-reported-3
+index-1-reported-3 c = search needs
+
+index-2-reported-3 : tie.Need-index-2-reported-3
+index-2-reported-3 c = search needs
+
+index-1-reported-4 : tie.Need-index-1-reported-4
+index-1-reported-4 c = search needs
+
+index-2-reported-4 : tie.Need-index-2-reported-4
+index-2-reported-4 c = search needs
+
+reported-requires-2 : tie.Need-reported-requires-2
+reported-requires-2 c κs = search needs
+
 array-copy-out-against : tie.Need-array-copy-out-against
 array-copy-out-against c = search needs
 
@@ -75,11 +105,13 @@ against-requires-2 : tie.Need-against-requires-2
 against-requires-2 c κs = search needs
 
 -- the letters and the flips
-told : (c : tie.After-against2) → let a = c .before .before .before .before .before .before .before .before .before .before .before .before .before .before .before .before .before .before .before .before .before .before .args in
+told : (c : tie.After-against2) → let a = c .before .before .before .before .before .before .before .before .before .before .before .before .before .before .before .before .before .before .before .before .before .before .before .before .before .before .before .before .args in
     Lettered (matrixOf (a .block .now)) (divisionOf (a .sides .now)) (a .j)
-    (record { first = c .before .before .before .before .before .before .before .letter .result; second = c .before .before .before .before .letter2 .result; flips = c .before .before .against .result + c .against2 .result })
+    (record { first = c .before .before .before .before .before .before .before .reported .result; second = c .before .before .before .before .reported2 .result; flips = c .before .before .against .result + c .against2 .result })
 told c =
-    let second = c .before .before .before .before in
+    let shown2 = c .before .before .before .before in
+    let shown = shown2 .before .before .before in
+    let second = shown .before .before .before in
     let first = second .before .before .before in
     let counted = first .before .before .before in
     let marked = counted .before .before in
@@ -93,14 +125,17 @@ told c =
     let laid = start .pre .0 in
     let placed = formed-placed 1 b (formed 1 b (laid .block-good)) in
     let letter-of = letter-listed M placed (a .j) (a .list .now) (a .p) (laid .listed) (start .pre .1 .0) _ (weighed .weights-at .ensures .0) d _ (summed .by-sides .ensures) in
-    lettered M placed (a .j) (a .list .now) (a .p) (laid .listed) (start .pre .1 .0) _ (marked .marks-at .ensures .0) d _ (counted .by-sides2 .ensures) (laid .few) _ _ _ _
+    let reported-of = reported-listed M placed (a .j) (a .list .now) (a .p) (laid .listed) (start .pre .1 .0) _ (weighed .weights-at .ensures .0) d _ (summed .by-sides .ensures) in
+    lettered M placed (a .j) (a .list .now) (a .p) (laid .listed) (start .pre .1 .0) _ (marked .marks-at .ensures .0) d _ (counted .by-sides2 .ensures) (laid .few) _ _ _ _ _ _
+    (reported-of false _ (shown .reported .ensures))
+    (reported-of true _ (shown2 .reported2 .ensures))
     (letter-of false _ (first .letter .ensures))
     (letter-of true _ (second .letter2 .ensures))
     (c .before .before .against .ensures)
     (c .against2 .ensures)
 
-add-t43 : tie.Need-add-t43
-add-t43 c = omega (arith, told c .flips-few)
+add-t61 : tie.Need-add-t61
+add-t61 c = omega (arith, told c .flips-few)
 
 returns : tie.Need-returns
 returns c = told c
@@ -123,9 +158,19 @@ letters-at-spec =
     index-1-letter-4
     index-2-letter-4
     letter-requires-2
+    index-1-reported
+    index-2-reported
+    index-1-reported-2
+    index-2-reported-2
+    reported-requires
+    index-1-reported-3
+    index-2-reported-3
+    index-1-reported-4
+    index-2-reported-4
+    reported-requires-2
     array-copy-out-against
     against-requires
     array-copy-out-against-2
     against-requires-2
-    add-t43
+    add-t61
     returns)

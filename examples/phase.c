@@ -5,10 +5,10 @@
 #include <stdlib.h>
 #include <velejume.h>
 
-/* one character for each of so many bytes */
+/* one character for each of so many bytes; letter 2 is no letter */
 static void line(const char *name, const uint8_t *marks, size_t count) {
   printf("%s ", name);
-  for (size_t i = 0; i < count; i++) putchar('0' + marks[i]);
+  for (size_t i = 0; i < count; i++) putchar("01-"[marks[i]]);
   putchar('\n');
 }
 

@@ -1,16 +1,23 @@
 //! The answer block: its version, its letters, its head, its parts.
 
 use crate::Block;
+use std::cmp::Ordering;
 
 /// The version of the answer block.
-const VERSION: u8 = 1;
+const VERSION: u8 = 2;
 
-/// The letter of a side, by the weight of its entries with letter 1 and that of its entries with letter 0.
+/// The letter that is reported of a side, by the weight of its entries with letter 1 and that of its entries with letter 0:
+/// 2, no letter, where they are equal.
 pub fn letter(w0: u32, w1: u32) -> u8 {
-    if w0 < w1 { 0 } else { 1 }
+    match w0.cmp(&w1) {
+        Ordering::Less => 0,
+        Ordering::Equal => 2,
+        Ordering::Greater => 1,
+    }
 }
 
-/// How many of a side's entries differ from its letter, of so many with letter 0 and so many with letter 1.
+/// How many of a side's entries differ from its letter, of so many with letter 0 and so many with letter 1. At a tie the letter
+/// is 1, though none is reported.
 pub fn flips(w0: u32, w1: u32, zeros: u32, ones: u32) -> u32 {
     if w0 < w1 { ones } else { zeros }
 }

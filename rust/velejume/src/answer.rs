@@ -3,13 +3,15 @@
 use std::fmt;
 
 /// The version of the answer block that the library writes.
-const VERSION: u8 = 1;
+const VERSION: u8 = 2;
 
 /// A letter of a haplotype, with its byte in the answer block.
 #[derive(Clone, Copy, Debug, PartialEq, Eq, Hash)]
 pub enum Letter {
     Zero = 0,
     One = 1,
+    /// no letter: the two sums that it is chosen from are equal
+    Tie = 2,
 }
 
 impl Letter {
@@ -17,6 +19,7 @@ impl Letter {
         match byte {
             0 => Letter::Zero,
             1 => Letter::One,
+            2 => Letter::Tie,
             _ => panic!("the library gives {byte}, which is no letter"),
         }
     }
@@ -27,6 +30,7 @@ impl fmt::Display for Letter {
         f.write_str(match self {
             Letter::Zero => "0",
             Letter::One => "1",
+            Letter::Tie => "-",
         })
     }
 }

@@ -14,7 +14,7 @@
 //! ];
 //! let answer = velejume::phase(&block).unwrap();
 //! assert_eq!(answer.cost, 1);
-//! assert_eq!(answer.to_string(), "cost 1\nflips 1\nsides 1000\nhap1 10\nhap2 01\n");
+//! assert_eq!(answer.to_string(), "cost 1\nflips 1\nsides 1000\nhap1 10\nhap2 0-\n");
 //! assert_eq!(answer.table.column(1), [1, 3, 1, 4]);
 //!
 //! let refusal = velejume::phase(&block[..36]).unwrap_err();

@@ -1,4 +1,4 @@
-//! P1 to P9 of document 01, as `phase` prints them, and the tables of P1 and P2.
+//! P1 to P9, as `phase` prints them, and the tables of P1 and P2.
 
 use matrix::parse;
 use velejume::{Answer, phase};
@@ -8,17 +8,17 @@ fn answer(text: &str, columns: Option<usize>) -> Answer {
 }
 
 #[test]
-fn p1_to_p9_get_document_01s_answers() {
+fn p1_to_p9_get_their_answers() {
     let examples = [
-        ("0:5 . / 1:3 0:2 / 1:6 1:1 / . 0:2", "1, 1, 1000, 10, 01"),
+        ("0:5 . / 1:3 0:2 / 1:6 1:1 / . 0:2", "1, 1, 1000, 10, 0-"),
         ("0:4 . 1:3 / 0:5 0:5 0:5 / 1:5 1:5 1:5", "3, 1, 001, 000, 111"),
-        ("", "0, 0, none, 1, 1"),
-        ("0:7", "0, 0, 0, 0, 1"),
+        ("", "0, 0, none, -, -"),
+        ("0:7", "0, 0, 0, 0, -"),
         ("0:5 / 1:5", "0, 0, 01, 0, 1"),
-        ("0:3 / 0:3", "0, 0, 00, 0, 1"),
-        ("0:0 / 1:0", "0, 1, 00, 1, 1"),
-        ("1:4 .", "0, 0, 0, 11, 11"),
-        (". / 0:7", "0, 0, 00, 0, 1"),
+        ("0:3 / 0:3", "0, 0, 00, 0, -"),
+        ("0:0 / 1:0", "0, 1, 00, -, -"),
+        ("1:4 .", "0, 0, 0, 1-, --"),
+        (". / 0:7", "0, 0, 00, 0, -"),
     ];
     for (text, expected) in examples {
         let printed = answer(text, text.is_empty().then_some(1)).to_string();

@@ -84,16 +84,19 @@ pub fn charge(letters: &Cells, weights: &Cells, sides: &Sides, n: usize, j: usiz
     sum(one, two)
 }
 
-// The letter of a side: 0 if W0 < W1 and otherwise 1.
+// The letter of a side: 0 if W0 < W1, 1 if W1 < W0, and 2, printed `-`, if they are equal.
 pub fn letter(letters: &Cells, weights: &Cells, sides: &Sides, n: usize, j: usize, side: u8) -> u8
     requires { ⌜ (n ≤ 16) × (j < 1024) ⌝ }
 {
     let w0 = weight(letters, weights, sides, n, j, side, 1);
     let w1 = weight(letters, weights, sides, n, j, side, 0);
-    if w0 < w1 { 0 } else { 1 }
+    if w0 < w1 {
+        return 0;
+    }
+    if w1 < w0 { 1 } else { 2 }
 }
 
-// The entries of a side at column j that differ from its letter.
+// The entries of a side at column j that differ from its letter; `-` counts as 1.
 pub fn flips(letters: &Cells, sides: &Sides, n: usize, j: usize, side: u8, l: u8) -> u32
     requires { ⌜ (n ≤ 16) × (j < 1024) ⌝ }
 {

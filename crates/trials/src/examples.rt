@@ -1,5 +1,5 @@
-// P1 to P9 of document 01: the matrices, and what it says of each. The tables of P1 and P2 are the document's, the others follow from its
-// definition by hand.
+// P1 to P9 of document 01: the matrices, and what it says of each, with `-` for the letter of a tie. The tables of P1 and P2 are the
+// document's, the others follow from its definition by hand.
 ghost use Prim.Native.Nat.{_≤_};
 use crate::bytes::Bytes;
 use crate::bytes::plus;
@@ -67,7 +67,7 @@ fn p1(tally: &mut Tally, searched: &mut Tally) {
     let size = row(&mut b, r3, 1, b"0:2");
     put_size(&mut b, size);
     let table = [5, 3, 0, 5, 1, 3, 1, 4];
-    example(b, size, 1, 1, b"1000 10 01", &table, tally, searched);
+    example(b, size, 1, 1, b"1000 10 0-", &table, tally, searched);
 }
 
 // The same as its 37 bytes.
@@ -75,7 +75,7 @@ fn p1_bytes(tally: &mut Tally) {
     let block =
         b"\x01\x00\x00\x00\x20\x00\x02\x00\x04\x00\x04\x00\x00\x00\x05\x00\x06\x00\x00\x01\x03\x00\x02\x00\x06\x00\x00\x01\x06\x01\x01\x00\x04\x00\x01\x00\x02";
     let table = [5, 3, 0, 5, 1, 3, 1, 4];
-    against_stated(b"examples", block, 1, 1, b"1000 10 01", &table, tally);
+    against_stated(b"examples", block, 1, 1, b"1000 10 0-", &table, tally);
 }
 
 // 0:4 . 1:3 / 0:5 0:5 0:5 / 1:5 1:5 1:5
@@ -95,7 +95,7 @@ fn p3(tally: &mut Tally, searched: &mut Tally) {
     let mut b = [0u8; 8192];
     let size = put_header(&mut b, 1, 0);
     put_size(&mut b, size);
-    example(b, size, 0, 0, b"1 1", &[0], tally, searched);
+    example(b, size, 0, 0, b"- -", &[0], tally, searched);
 }
 
 // One read of one cell.
@@ -134,12 +134,12 @@ fn two(
 
 // 0:7, then 0:5 / 1:5, 0:3 / 0:3, 0:0 / 1:0, then 1:4 . with m = 2, and c = 0 / 0:7
 fn p4_to_p9(tally: &mut Tally, searched: &mut Tally) {
-    one(1, b"0:7", b"0 0 1", &[0], tally, searched);
+    one(1, b"0:7", b"0 0 -", &[0], tally, searched);
     two(b"0:5", b"1:5", 0, b"01 0 1", &[5, 0], tally, searched);
-    two(b"0:3", b"0:3", 0, b"00 0 1", &[0, 0], tally, searched);
-    two(b"0:0", b"1:0", 1, b"00 1 1", &[0, 0], tally, searched);
-    one(2, b"1:4", b"0 11 11", &[0, 0], tally, searched);
-    two(b"", b"0:7", 0, b"00 0 1", &[0], tally, searched);
+    two(b"0:3", b"0:3", 0, b"00 0 -", &[0, 0], tally, searched);
+    two(b"0:0", b"1:0", 1, b"00 - -", &[0, 0], tally, searched);
+    one(2, b"1:4", b"0 1- --", &[0, 0], tally, searched);
+    two(b"", b"0:7", 0, b"00 0 -", &[0], tally, searched);
 }
 
 pub fn run(all: &mut Tally) {

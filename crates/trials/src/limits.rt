@@ -88,13 +88,13 @@ fn gapped(reads: usize, expected: Numbers, tally: &mut Tally) {
     numbered(b, size, ample(), expected, tally);
 }
 
-// Reads without a cell at one column: every side is 0, and a column without entries has letter 1.
+// Reads without a cell at one column: every side is 0, and a column without entries has no letter.
 fn all_empty(b: Bytes, size: usize, tally: &mut Tally)
     requires { ⌜ size ≤ 8192 ⌝ }
 {
     let mut marks = [b'0'; 1026];
-    marks[1024] = b'1';
-    marks[1025] = b'1';
+    marks[1024] = b'-';
+    marks[1025] = b'-';
     against_stated(b"limits", &b[..size], 0, 0, &marks, &[0], tally);
 }
 

@@ -1,11 +1,11 @@
-// The answer block, laid out as document 01 has it.
+// The answer block, laid out as document 01 has it, of version 2.
 ghost use Prim.Native.Nat.{_+_, _≤_};
 use crate::bytes::low;
 
 // Room for an answer block.
 pub type Output = [u8; 4096];
 
-const VERSION: u8 = 1;
+const VERSION: u8 = 2;
 
 fn put_word(out: &mut Output, at: usize, x: usize)
     requires { ⌜ at + 2 ≤ 4096 ⌝ }

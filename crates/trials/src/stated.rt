@@ -11,13 +11,22 @@ use crate::rooms::ample;
 use crate::rooms::fill_output;
 use crate::rooms::fill_table;
 
+// A side or a letter, from its character.
+fn value(mark: u8) -> u8 {
+    match mark {
+        b'0' => 0,
+        b'-' => 2,
+        _ => 1,
+    }
+}
+
 // A side or a letter, written as a character, goes to the next byte; a blank does not.
 fn put_mark(answer: &mut Output, at: usize, mark: u8) -> usize {
     if mark == b' ' {
         return at;
     }
     if at < 4096 {
-        answer[at] = if mark == b'0' { 0 } else { 1 };
+        answer[at] = value(mark);
         return at + 1;
     }
     at

@@ -1,12 +1,13 @@
 -- Worked examples, proved by computing.
 -- P1 to P9 and one more, as one list under one statement: each block, called with room for the table and the answer and one more of each, gives number 0
--- and the cost, and leaves the table and the answer block in front of what the rooms held. Then one refusal of each number.
+-- and the cost, and leaves the table and the answer block in front of what the rooms held. Then one refusal of each number, and one answer for each verdict.
 use Prim.Native.Nat.{ℕ, suc}
 use mathlib.Core.Path.{_≡_, refl}
-use mathlib.Core.List.{List, [], _∷_, _++_}
+use mathlib.Core.List.{List, [], _∷_, _++_, map}
 use lib.ListN.{length, replicate}
 use Rattle.meaning.specs.Answer.{answerBytes}
 use Rattle.meaning.specs.Call.{call}
+use Rattle.meaning.specs.Judge.{judging}
 use Rattle.meaning.specs.Opened.{opened}
 
 pub record Example : Type 0 where
@@ -307,3 +308,66 @@ refusals = r1 ∷ r2 ∷ r3 ∷ r4 ∷ r5 ∷ r6 ∷ r7 ∷ r8 ∷ r9 ∷ r10 �
 pub refusals-hold : All Refuses refusals
 unfolding opened
 refusals-hold = (refl, (refl, (refl, (refl, (refl, (refl, (refl, (refl, (refl, (refl, (refl, tt)))))))))))
+
+-- Judgements: P1 to P9's answers are ours, and for each verdict an answer that gets it. The work room has one entry more than the table.
+pub record Judgement : Type 0 where
+  pub of : Example
+  pub answer : List ℕ
+  pub number : ℕ
+  pub second : ℕ
+
+abbrev pub Judges : Judgement → Type 0
+Judges s =
+    judging (s .of .block) (s .answer) (replicate (suc (length (s .of .entries))) 7)
+    ≡ record { number = s .number; second = s .second; work = s .of .entries ++ (7 ∷ []) }
+
+abbrev pub own : Example → Judgement
+own s = record { of = s; answer = answer-of s; number = 57; second = 0 }
+
+-- P1 with its answer in version 1
+abbrev pub j50 : Judgement
+j50 = record { of = p1; answer = 1 ∷ 0 ∷ 0 ∷ 0 ∷ 20 ∷ 0 ∷ 0 ∷ 0 ∷ 1 ∷ 0 ∷ 0 ∷ 0 ∷ 1 ∷ 0 ∷ 4 ∷ 0 ∷ 2 ∷ 1 ∷ 0 ∷ 0 ∷ 0 ∷ 1 ∷ 0 ∷ 0 ∷ 2 ∷ []; number = 50; second = 0 }
+
+-- P1 with the answer of P2
+abbrev pub j51 : Judgement
+j51 = record { of = p1; answer = answer-of p2; number = 51; second = 0 }
+
+-- P1 with a read on side 2, and a cost that is wrong too
+abbrev pub j52 : Judgement
+j52 = record { of = p1; answer = answerBytes 7 1 (2 ∷ 0 ∷ 0 ∷ 0 ∷ []) (1 ∷ 0 ∷ []) (0 ∷ 2 ∷ []); number = 52; second = 0 }
+
+-- P1 with a `-` on side 0, where nine stand against nothing
+abbrev pub j53 : Judgement
+j53 = record { of = p1; answer = answerBytes 1 1 (1 ∷ 0 ∷ 0 ∷ 0 ∷ []) (2 ∷ 0 ∷ []) (0 ∷ 2 ∷ []); number = 53; second = 0 }
+
+-- P2 by a program that forgets the paired read inside its gap: it finds no cost where there is 3
+abbrev pub j54 : Judgement
+j54 = record { of = p2; answer = answerBytes 0 0 (0 ∷ 0 ∷ 1 ∷ []) (0 ∷ 0 ∷ 0 ∷ []) (1 ∷ 1 ∷ 1 ∷ []); number = 54; second = 0 }
+
+-- P2 with the pair on the other side: an honest cost of 4
+abbrev pub j55 : Judgement
+j55 = record { of = p2; answer = answerBytes 4 1 (1 ∷ 0 ∷ 1 ∷ []) (0 ∷ 0 ∷ 0 ∷ []) (1 ∷ 1 ∷ 1 ∷ []); number = 55; second = 3 }
+
+-- P5 with the sides exchanged
+abbrev pub j56 : Judgement
+j56 = record { of = p5; answer = answerBytes 0 0 (1 ∷ 0 ∷ []) (1 ∷ []) (0 ∷ []); number = 56; second = 0 }
+
+-- P4 with a letter where ours is `-`
+abbrev pub j56-letter : Judgement
+j56-letter = record { of = p4; answer = answerBytes 0 0 (0 ∷ []) (0 ∷ []) (0 ∷ []); number = 56; second = 0 }
+
+-- P9 with the empty read on side 1
+abbrev pub j56-empty : Judgement
+j56-empty = record { of = p9; answer = answerBytes 0 0 (1 ∷ 0 ∷ []) (0 ∷ []) (2 ∷ []); number = 56; second = 0 }
+
+-- P1 with another number of flips: ours
+abbrev pub j57 : Judgement
+j57 = record { of = p1; answer = answerBytes 1 9 (1 ∷ 0 ∷ 0 ∷ 0 ∷ []) (1 ∷ 0 ∷ []) (0 ∷ 2 ∷ []); number = 57; second = 0 }
+
+abbrev pub judgements : List Judgement
+judgements = map own examples ++ (j50 ∷ j51 ∷ j52 ∷ j53 ∷ j54 ∷ j55 ∷ j56 ∷ j56-letter ∷ j56-empty ∷ j57 ∷ [])
+
+pub judgements-hold : All Judges judgements
+unfolding opened
+judgements-hold =
+    (refl, (refl, (refl, (refl, (refl, (refl, (refl, (refl, (refl, (refl, (refl, (refl, (refl, (refl, (refl, (refl, (refl, (refl, (refl, (refl, tt))))))))))))))))))))

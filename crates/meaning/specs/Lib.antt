@@ -9,6 +9,7 @@ pub mod Table
 pub mod Answer
 pub mod Refusals
 pub mod Call
+pub mod Judge
 pub mod Rule
 pub mod Opened
 pub mod Examples

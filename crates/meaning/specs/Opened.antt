@@ -10,7 +10,8 @@ use Rattle.meaning.specs.Table.{spread, value, entry, column, columnsTo,
 use Rattle.meaning.specs.Answer.{answerBytes, sidesOf, lettersOf, answer, answerSize}
 use Rattle.meaning.specs.Refusals.{short, otherVersion, otherSize, badCounts, badLength, badPlace, badCell, isHole, badCells, readFault, readsFault, leftOver, crowded, workSize, refuse, orElse, headerRefusal, blockRefusal, refusal}
 use Rattle.meaning.specs.Call.{accepts, refuses, callWith, call}
+use Rattle.meaning.specs.Judge.{malformed, otherCounts, unknownMark, falseDashAt, falseDash, wrongCost, notLeast, otherAnswer, verdict, judges, judgingWith, judging}
 
 unfoldable pub opened : Unit {0}
-unfolding sumTo maxTo minTo run anyTo bigEndian bytesOf cellAt readOf readsOf afterReads matrixOf active at activeCount mostActive entries closesAt closingAt closingBefore closing activeReads otherReads leastOver firstOver against W charge costTo leastCost best letterOf tied reported haplotypes isFlip flips disagreement corrected isEntry spread value entry column columnsTo table answerBytes sidesOf lettersOf answer answerSize short otherVersion otherSize badCounts badLength badPlace badCell isHole badCells readFault readsFault leftOver crowded workSize refuse orElse headerRefusal blockRefusal refusal accepts refuses callWith call
+unfolding sumTo maxTo minTo run anyTo bigEndian bytesOf cellAt readOf readsOf afterReads matrixOf active at activeCount mostActive entries closesAt closingAt closingBefore closing activeReads otherReads leastOver firstOver against W charge costTo leastCost best letterOf tied reported haplotypes isFlip flips disagreement corrected isEntry spread value entry column columnsTo table answerBytes sidesOf lettersOf answer answerSize short otherVersion otherSize badCounts badLength badPlace badCell isHole badCells readFault readsFault leftOver crowded workSize refuse orElse headerRefusal blockRefusal refusal accepts refuses callWith call malformed otherCounts unknownMark falseDashAt falseDash wrongCost notLeast otherAnswer verdict judges judgingWith judging
 opened = tt

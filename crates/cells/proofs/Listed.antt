@@ -32,6 +32,16 @@ pair-at f e true = ap (λ (x : List ℕ). pairAt x true) e
 array-sums : {x : Sums} {s : List (List ℕ)} → s ≡ arrayOf x → sumsOf s ≡ x
 array-sums {x} e = ap sumsOf e ∙ sums-of-array x
 
+-- the letter of a side, and what is reported of it, by an array of the four sums
+module _ (s : List (List ℕ)) (w : Sums) (is : s ≡ arrayOf w) (t : Side) (a : ℕ) where
+  pub letter-summed : a ≡ bit (not (ltb (sumsOf s t false) (sumsOf s t true))) → a ≡ bit (letterOf w t)
+  unfolding letterOf
+  letter-summed h = h ∙ ap (λ (x : Sums). bit (not (ltb (x t false) (x t true)))) (array-sums {x = w} is)
+
+  pub reported-summed : a ≡ cond (eqb (sumsOf s t false) (sumsOf s t true)) 2 (bit (not (ltb (sumsOf s t false) (sumsOf s t true)))) → a ≡ reported general w t
+  unfolding reported tied letterOf
+  reported-summed h = h ∙ ap (λ (x : Sums). cond (eqb (x t false) (x t true)) 2 (bit (not (ltb (x t false) (x t true))))) (array-sums {x = w} is)
+
 bit-small : (b : Bool) → bit b ≤ 1
 bit-small true = omega arith
 bit-small false = omega arith
@@ -57,15 +67,8 @@ module _ (M : Matrix) (placed : Placed M) (j : ℕ) (list : List ℕ) (p : ℕ) 
           ∙ ap (λ (n : ℕ). sumsWith w n (sidesIn d (activeReads M j))) (sym count-listed)
           ∙ sym (sums-any M placed j w paired-listed d)
 
-      pub letter-listed : (s : List (List ℕ)) → s ≡ arrayOf (sumsWith w p (sidesIn d list)) → (t : Side) (a : ℕ)
-          → a ≡ bit (not (ltb (sumsOf s t false) (sumsOf s t true))) → a ≡ bit (haplotypes general M d t j)
-      unfolding haplotypes letterOf
-      letter-listed s e t a h = h ∙ ap (λ (x : Sums). bit (not (ltb (x t false) (x t true)))) (array-sums e ∙ sums-listed)
-
-      pub reported-listed : (s : List (List ℕ)) → s ≡ arrayOf (sumsWith w p (sidesIn d list)) → (t : Side) (a : ℕ)
-          → a ≡ cond (eqb (sumsOf s t false) (sumsOf s t true)) 2 (bit (not (ltb (sumsOf s t false) (sumsOf s t true)))) → a ≡ reported general (W M d j) t
-      unfolding reported tied letterOf
-      reported-listed s e t a h = h ∙ ap (λ (x : Sums). cond (eqb (x t false) (x t true)) 2 (bit (not (ltb (x t false) (x t true))))) (array-sums e ∙ sums-listed)
+      pub array-listed : (s : List (List ℕ)) → s ≡ arrayOf (sumsWith w p (sidesIn d list)) → s ≡ arrayOf (W M d j)
+      array-listed s e = e ∙ ap arrayOf sums-listed
 
   -- pairs of marks
   module _ (m : List (List ℕ)) (marked : (i : ℕ) → i < p → getD m i [] ≡ marksOf (at (read M (getD list i 0)) j)) (d : Division) where
@@ -111,11 +114,12 @@ module _ (M : Matrix) (placed : Placed M) (j : ℕ) (list : List ℕ) (p : ℕ) 
     -- the letters, and each side's marks against its letter
     pub lettered : (n : List (List ℕ)) → n ≡ arrayOf (sumsWith m p (sidesIn d list)) → p ≤ 12 → (f g a b x y : ℕ)
         → f ≡ reported general (W M d j) false → g ≡ reported general (W M d j) true
-        → a ≡ bit (haplotypes general M d false j) → b ≡ bit (haplotypes general M d true j)
+        → a ≡ bit (letterOf (W M d j) false) → b ≡ bit (letterOf (W M d j) true)
         → ((l : Letter) → a ≡ bit l → x ≡ pairAt (getD n 0 []) l) → ((l : Letter) → b ≡ bit l → y ≡ pairAt (getD n 1 []) l)
         → Lettered M d j (record { first = f; second = g; flips = x + y })
+    unfolding haplotypes
     lettered n e few f g a b x y ef eg ea eb hx hy =
-        let h : Side → Letter = λ t. haplotypes general M d t j in
+        let h : Side → Letter = letterOf (W M d j) in
         let N : Sums = sumsWith m p (sidesIn d list) in
         let same : sumsOf n ≡ N = array-sums e in
         let sum : x + y ≡ N false (h false) + N true (h true) = ap₂ _+_ (hx (h false) ea ∙ ap (λ (z : Sums). z false (h false)) same) (hy (h true) eb ∙ ap (λ (z : Sums). z true (h true)) same) in

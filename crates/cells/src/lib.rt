@@ -9,7 +9,7 @@ ghost use Rattle.meaning.specs.Numbers.{bit};
 ghost use Rattle.meaning.specs.Block.{cellAt, matrixOf, readsField};
 ghost use Rattle.meaning.specs.Active.{read, at};
 ghost use Rattle.meaning.specs.Closing.{activeReads};
-ghost use Rattle.meaning.specs.Charge.{Letter};
+ghost use Rattle.meaning.specs.Charge.{Letter, W};
 ghost use Rattle.meaning.specs.Answer.{divisionOf};
 ghost use Rattle.meaning.specs.Refusals.{badCell};
 ghost use Rattle.column.specs.Sums.{pairOf, pairAt, LightPairs, Small, sumsOf, arrayOf, sumsWith, sideOf};
@@ -154,7 +154,7 @@ fn letter(w0: u32, w1: u32) -> u8
 }
 
 // What is reported of a side: 2 where W0 = W1, otherwise its letter.
-fn reported(w0: u32, w1: u32) -> u8
+pub fn reported(w0: u32, w1: u32) -> u8
     ensures { λ r. ⌜ r ≡ cond (eqb w0 w1) 2 (bit (not (ltb w0 w1))) ⌝ }
 {
     if w0 == w1 { 2 } else { letter(w0, w1) }
@@ -167,7 +167,27 @@ fn against(n: [u32; 2], letter: u8) -> u32
     if letter == 0 { n[0] } else { n[1] }
 }
 
-// The letters that are reported of column j, and the flips against its letters; the list's first p reads are the column's active reads.
+// The four sums of column j by sides; the list's first p reads are the column's active reads.
+pub fn sums_at(
+    block: &[u8],
+    start: &[u32],
+    first: &[u16],
+    end: &[u16],
+    list: &[u16],
+    p: usize,
+    j: usize,
+    sides: &[u8],
+) -> [[u32; 2]; 2]
+    requires { ⌜ Laid (now block) (now start) (now first) (now end) (now list) p j ⌝ }
+    requires { ⌜ take p (now list) ≡ activeReads (matrixOf (now block)) j ⌝ }
+    requires { ⌜ readsField (now block) ≤ length (now sides) ⌝ }
+    ensures { λ r. ⌜ r ≡ arrayOf (W (matrixOf (now (block .entry))) (divisionOf (now (sides .entry))) j) ⌝ }
+{
+    let w = weights_at(block, start, first, end, list, p, j);
+    by_sides(&w, list, p, sides)
+}
+
+// The letters that are reported of that column, and the flips against its letters.
 pub fn letters_at(
     block: &[u8],
     start: &[u32],
@@ -183,8 +203,7 @@ pub fn letters_at(
     requires { ⌜ readsField (now block) ≤ length (now sides) ⌝ }
     ensures { λ r. ⌜ Lettered (matrixOf (now (block .entry))) (divisionOf (now (sides .entry))) j r ⌝ }
 {
-    let w = weights_at(block, start, first, end, list, p, j);
-    let s = by_sides(&w, list, p, sides);
+    let s = sums_at(block, start, first, end, list, p, j, sides);
     let m = marks_at(block, start, first, end, list, p, j);
     let n = by_sides(&m, list, p, sides);
     let a = letter(s[0][0], s[0][1]);

@@ -336,6 +336,10 @@ j51 = record { of = p1; answer = answer-of p2; number = 51; second = 0 }
 abbrev pub j52 : Judgement
 j52 = record { of = p1; answer = answerBytes 7 1 (2 ∷ 0 ∷ 0 ∷ 0 ∷ []) (1 ∷ 0 ∷ []) (0 ∷ 2 ∷ []); number = 52; second = 0 }
 
+-- P1 with a letter 3 in the second haplotype
+abbrev pub j52-letter : Judgement
+j52-letter = record { of = p1; answer = answerBytes 1 1 (1 ∷ 0 ∷ 0 ∷ 0 ∷ []) (1 ∷ 0 ∷ []) (0 ∷ 3 ∷ []); number = 52; second = 0 }
+
 -- P1 with a `-` on side 0, where nine stand against nothing
 abbrev pub j53 : Judgement
 j53 = record { of = p1; answer = answerBytes 1 1 (1 ∷ 0 ∷ 0 ∷ 0 ∷ []) (2 ∷ 0 ∷ []) (0 ∷ 2 ∷ []); number = 53; second = 0 }
@@ -347,6 +351,10 @@ j54 = record { of = p2; answer = answerBytes 0 0 (0 ∷ 0 ∷ 1 ∷ []) (0 ∷ 0
 -- P2 with the pair on the other side: an honest cost of 4
 abbrev pub j55 : Judgement
 j55 = record { of = p2; answer = answerBytes 4 1 (1 ∷ 0 ∷ 1 ∷ []) (0 ∷ 0 ∷ 0 ∷ []) (1 ∷ 1 ∷ 1 ∷ []); number = 55; second = 3 }
+
+-- P5 with both reads on side 0, where by these sides five stand against five: an honest `-`
+abbrev pub j55-dash : Judgement
+j55-dash = record { of = p5; answer = answerBytes 5 1 (0 ∷ 0 ∷ []) (2 ∷ []) (2 ∷ []); number = 55; second = 0 }
 
 -- P5 with the sides exchanged
 abbrev pub j56 : Judgement
@@ -365,9 +373,9 @@ abbrev pub j57 : Judgement
 j57 = record { of = p1; answer = answerBytes 1 9 (1 ∷ 0 ∷ 0 ∷ 0 ∷ []) (1 ∷ 0 ∷ []) (0 ∷ 2 ∷ []); number = 57; second = 0 }
 
 abbrev pub judgements : List Judgement
-judgements = map own examples ++ (j50 ∷ j51 ∷ j52 ∷ j53 ∷ j54 ∷ j55 ∷ j56 ∷ j56-letter ∷ j56-empty ∷ j57 ∷ [])
+judgements = map own examples ++ (j50 ∷ j51 ∷ j52 ∷ j52-letter ∷ j53 ∷ j54 ∷ j55 ∷ j55-dash ∷ j56 ∷ j56-letter ∷ j56-empty ∷ j57 ∷ [])
 
 pub judgements-hold : All Judges judgements
 unfolding opened
 judgements-hold =
-    (refl, (refl, (refl, (refl, (refl, (refl, (refl, (refl, (refl, (refl, (refl, (refl, (refl, (refl, (refl, (refl, (refl, (refl, (refl, (refl, tt))))))))))))))))))))
+    (refl, (refl, (refl, (refl, (refl, (refl, (refl, (refl, (refl, (refl, (refl, (refl, (refl, (refl, (refl, (refl, (refl, (refl, (refl, (refl, (refl, (refl, tt))))))))))))))))))))))

@@ -1,5 +1,6 @@
 -- A builder's answer block, judged: the verdicts in their order, and the first that applies. General mode.
 use Prim.Native.Nat.{ℕ, _+_, _*_, _-_}
+use mathlib.Core.Path.{_≡_}
 use mathlib.Core.Bool.{Bool, true, false, cond, not, _&&_, _||_}
 use mathlib.Core.List.{List}
 use lib.ListN.{length, getD, take, drop}
@@ -109,3 +110,9 @@ judgingWith newest b a work =
 -- what `judge` does with a block, a builder's answer and a work room
 unfoldable pub judging : List ℕ → List ℕ → List ℕ → Judged
 judging = judgingWith 1
+
+-- a contract with it, by parts: each is an equation
+pub record JudgedBy (b a work : List ℕ) (r : Judged) : Type 0 where
+  pub number-is : r .number ≡ judging b a work .number
+  pub second-is : r .second ≡ judging b a work .second
+  pub work-is : r .work ≡ judging b a work .work

@@ -6,7 +6,7 @@ ghost use Prim.Native.Nat.{ℕ, _+_, _-_, _*_, _≤_, _<_, min};
 ghost use lib.ListN.{length, getD, take, drop, replicate};
 ghost use Rattle.meaning.specs.Numbers.{bit};
 ghost use Rattle.meaning.specs.Block.{columnsField, readsField, matrixOf};
-ghost use Rattle.meaning.specs.Active.{mostActive, used, entries};
+ghost use Rattle.meaning.specs.Active.{used, entries};
 ghost use Rattle.meaning.specs.Closing.{activeReads, closingAt};
 ghost use Rattle.meaning.specs.Division.{firstOver, allZero};
 ghost use Rattle.meaning.specs.Charge.{charge, leastCost};
@@ -16,10 +16,9 @@ ghost use Rattle.meaning.specs.Answer.{sidesOf, divisionOf, lettersOf, answer};
 ghost use Rattle.meaning.specs.Refusals.{blockRefusal};
 ghost use Rattle.meaning.specs.Call.{over, laid, call};
 ghost use Rattle.meaning.specs.Rule.{sharedReads, ruleColumn, columnOf, entryFor, leastEntry, wayBack};
-ghost use Rattle.pile.specs.Spans.{heightAt};
 ghost use Rattle.cells.specs.Laid.{Lettered};
-ghost use Rattle.solve.specs.Ready.{Ready, Piling, TakenOver, TakenFits, passedOver};
-ghost use Rattle.solve.specs.Outcomes.{resultOf};
+ghost use Rattle.solve.specs.Ready.{Ready, Piling, ThinColumns, TakenOver, TakenFits, passedOver};
+ghost use Rattle.solve.specs.Outcomes.{ColumnsFound, resultOf};
 
 fn wide(x: u16) -> usize
     ensures { λ r. ⌜ r ≡ x ⌝ }
@@ -251,7 +250,7 @@ fn way_back(
 }
 
 // The least entry of the last column.
-fn least_last(
+pub fn least_last(
     block: &[u8],
     start: &[u32],
     first: &[u16],
@@ -327,7 +326,7 @@ fn write_letters(
 }
 
 // The sides of all reads, by the way back.
-fn write_sides(
+pub fn write_sides(
     block: &[u8],
     start: &[u32],
     first: &[u16],
@@ -388,6 +387,61 @@ fn write_answer(
     cost
 }
 
+// What the solver finds of a block's columns: 9 with the first that has more than 12 active reads, or T.
+pub enum Crowding {
+    Crowded(u32),
+    Thin(usize),
+}
+
+// Where the reads of a block that passes the checks 1 to 8 lie; then check 9, and T.
+pub fn piled(
+    block: &[u8],
+    m: usize,
+    n: usize,
+    start: &mut [u32],
+    first: &mut [u16],
+    end: &mut [u16],
+    count: &mut [u16],
+) -> Crowding
+    requires { ⌜ (blockRefusal 1 (now block) .number ≡ 0) × (m ≡ columnsField (now block)) × (n ≡ readsField (now block)) ⌝ }
+    requires { ⌜ (n ≤ length (now start)) × (n ≤ length (now first)) × (n ≤ length (now end)) ⌝ }
+    requires { ⌜ (m ≤ length (now count)) × (now count ≡ replicate (length (now count)) 0) ⌝ }
+    ensures { λ r. ⌜ Piling (now (block .entry)) (now (start .exit)) (now (first .exit)) (now (end .exit)) (now (count .exit)) m n ⌝ }
+    ensures { λ r. ⌜ ColumnsFound (now (block .entry)) r ⌝ }
+{
+    block::places(block, n, start, first, end);
+    pile::heights(first, end, n, count);
+    let h = pile::tallest(count, m);
+    match h {
+        pile::Pile::Crowded(j) => Crowding::Crowded(j as u32),
+        pile::Pile::Most(most) => Crowding::Thin(column::entries(most)),
+    }
+}
+
+// The columns' lists, and the table. `t` is T.
+pub fn tabled(
+    block: &[u8],
+    start: &[u32],
+    first: &[u16],
+    end: &[u16],
+    count: &mut [u16],
+    lists: &mut [u16],
+    m: usize,
+    n: usize,
+    t: usize,
+    taken: &mut [u32],
+    work: &mut [u32],
+)
+    requires { ⌜ Piling (now block) (now start) (now first) (now end) (now count) m n ⌝ }
+    requires { ⌜ ThinColumns (now block) t ⌝ }
+    requires { ⌜ (12 * m ≤ length (now lists)) × (used (min n 12) ≤ length (now taken)) × (m * t ≤ length (now work)) ⌝ }
+    ensures { λ _. ⌜ Ready (now (block .entry)) (now (start .entry)) (now (first .entry)) (now (end .entry)) (now (count .exit)) (now (lists .exit)) ⌝ }
+    ensures { λ _. ⌜ now (work .exit) ≡ over (table charge (matrixOf (now (block .entry)))) (now (work .entry)) ⌝ }
+{
+    pile::lists(first, end, n, m, count, lists);
+    fill_table(block, start, first, end, count, lists, m, t, taken, work);
+}
+
 // What the solver finds in a block that passes the checks 1 to 8: 9 with the column, 10 or 11 with the size needed, or the cost.
 pub enum Outcome {
     Crowded(u32),
@@ -396,7 +450,7 @@ pub enum Outcome {
     Cost(u32),
 }
 
-// The checks 10 and 11, then the table and the answer. `most` is A.
+// The checks 10 and 11, then the table and the answer. `t` is T.
 fn sized(
     block: &[u8],
     start: &[u32],
@@ -406,17 +460,16 @@ fn sized(
     lists: &mut [u16],
     m: usize,
     n: usize,
-    most: usize,
+    t: usize,
     taken: &mut [u32],
     work: &mut [u32],
     out: &mut [u8],
 ) -> Outcome
-    requires { ⌜ Piling (now block) (now start) (now first) (now end) (now count) (now lists) m n ⌝ }
-    requires { ⌜ (most ≡ mostActive (matrixOf (now block))) × (most ≤ 12) × (used most ≤ length (now taken)) ⌝ }
-    requires { ⌜ ((j : ℕ) → j < m → heightAt (now first) (now end) n j ≤ 12) ⌝ }
+    requires { ⌜ Piling (now block) (now start) (now first) (now end) (now count) m n ⌝ }
+    requires { ⌜ ThinColumns (now block) t ⌝ }
+    requires { ⌜ (12 * m ≤ length (now lists)) × (used (min n 12) ≤ length (now taken)) ⌝ }
     ensures { λ r. ⌜ resultOf r (now (work .exit)) (now (out .exit)) ≡ call (now (block .entry)) (now (work .entry)) (now (out .entry)) ⌝ }
 {
-    let t = column::entries(most);
     let need = m * t;
     if work.len() < need {
         return Outcome::Work(need as u32);
@@ -425,8 +478,7 @@ fn sized(
     if out.len() < size {
         return Outcome::Output(size as u32);
     }
-    pile::lists(first, end, n, m, count, lists);
-    fill_table(block, start, first, end, count, lists, m, t, taken, work);
+    tabled(block, start, first, end, count, lists, m, n, t, taken, work);
     let cost = write_answer(block, start, first, end, count, lists, m, n, t, work, out);
     Outcome::Cost(cost)
 }
@@ -452,12 +504,10 @@ pub fn solve(
     requires { ⌜ now count ≡ replicate (length (now count)) 0 ⌝ }
     ensures { λ r. ⌜ resultOf r (now (work .exit)) (now (out .exit)) ≡ call (now (block .entry)) (now (work .entry)) (now (out .entry)) ⌝ }
 {
-    block::places(block, n, start, first, end);
-    pile::heights(first, end, n, count);
-    let h = pile::tallest(count, m);
-    match h {
-        pile::Pile::Crowded(j) => Outcome::Crowded(j as u32),
-        pile::Pile::Most(most) => sized(
+    let c = piled(block, m, n, start, first, end, count);
+    match c {
+        Crowding::Crowded(j) => Outcome::Crowded(j),
+        Crowding::Thin(t) => sized(
             block,
             start,
             first,
@@ -466,7 +516,7 @@ pub fn solve(
             lists,
             m,
             n,
-            most,
+            t,
             taken,
             work,
             out,

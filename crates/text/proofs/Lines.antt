@@ -1,12 +1,13 @@
 -- The lines by their cases. Assumes nothing.
 use Prim.Native.Nat.{ℕ, _+_, _-_}
 use mathlib.Core.Path.{_≡_}
-use mathlib.Core.List.{List, _++_, append-assoc, map}
+use mathlib.Core.List.{List, [], _++_, append-assoc, map}
 use native.Mathlib.Nat.{add-sub-cancel-left}
 use borrow.Author.Tests.{eq-eqb, ne-eqb}
 use lib.ListN.{length, take, drop}
 use Rattle.meaning.specs.Numbers.{word, long}
-use Rattle.text.specs.Text.{decimal, mark, line, costWord, flipsWord, sidesWord, noneWord, hap1Word, hap2Word, refusedWord, atWord, sidesText, answerText, refusalText}
+use Rattle.text.specs.Text.{decimal, mark, line, costWord, flipsWord, sidesWord, noneWord, hap1Word, hap2Word, atWord, sidesText, answerText, numbersLine}
+use Rattle.text.specs.Verdict.{oursWords, verdictWords}
 
 pub sides-none : (s : List ℕ) → length s ≡ 0 → line sidesWord noneWord ≡ line sidesWord (sidesText s)
 sides-none s h = rw (eq-eqb (length s) 0 h)
@@ -25,6 +26,12 @@ pub answer-is : (b : List ℕ) (n m x y : ℕ) → n ≡ word b 13 → m ≡ wor
 unfolding answerText
 answer-is b n m x y en em ex ey = simp add-sub-cancel-left (rw (en, em, ex, ey))
 
-pub refusal-is : (x y : ℕ) → refusedWord ++ (decimal x ++ line atWord (decimal y)) ≡ refusalText x y
-unfolding refusalText
-refusal-is x y = simp append-assoc
+pub numbers-is : (w : List ℕ) (x y : ℕ) → w ++ (decimal x ++ line atWord (decimal y)) ≡ numbersLine w x y
+numbers-is w x y = simp append-assoc
+
+-- the words of no other verdict
+pub ours-is : (x : ℕ) → (x ≡ 50 → ⊥) → (x ≡ 51 → ⊥) → (x ≡ 52 → ⊥) → (x ≡ 53 → ⊥) → (x ≡ 54 → ⊥) → (x ≡ 55 → ⊥) → (x ≡ 56 → ⊥)
+    → line oursWords [] ≡ verdictWords x
+unfolding verdictWords
+ours-is x a b c d e f g =
+    rw (ne-eqb x 50 a, ne-eqb x 51 b, ne-eqb x 52 c, ne-eqb x 53 d, ne-eqb x 54 e, ne-eqb x 55 f, ne-eqb x 56 g)

@@ -1,9 +1,10 @@
--- What `phase` prints in four cases, by computation.
+-- What `phase` prints in four cases and `judge` in three, by computation.
 use Prim.Native.Nat.{ℕ}
 use mathlib.Core.Path.{_≡_, refl}
 use mathlib.Core.List.{List, [], _∷_}
 use Rattle.meaning.specs.Numbers.{bigEndian}
 use Rattle.text.specs.Text.{digits, answerText, refusalText, textOf}
+use Rattle.text.specs.Verdict.{verdictWords, judgedText}
 
 -- P1's answer block: cost 1, 1 flip, 4 sides, 2 columns
 abbrev pub answerP1 : List ℕ
@@ -42,7 +43,10 @@ unfolding textOf answerText digits bigEndian
 p3-printed = refl
 
 -- `refused 9 at 3`
-pub column-printed : textOf 9 3 [] ≡ 114 ∷ 101 ∷ 102 ∷ 117 ∷ 115 ∷ 101 ∷ 100 ∷ 32 ∷ 57 ∷ 32 ∷ 97 ∷ 116 ∷ 32 ∷ 51 ∷ 10 ∷ []
+abbrev pub textColumn : List ℕ
+textColumn = 114 ∷ 101 ∷ 102 ∷ 117 ∷ 115 ∷ 101 ∷ 100 ∷ 32 ∷ 57 ∷ 32 ∷ 97 ∷ 116 ∷ 32 ∷ 51 ∷ 10 ∷ []
+
+pub column-printed : textOf 9 3 [] ≡ textColumn
 unfolding textOf refusalText digits
 column-printed = refl
 
@@ -50,3 +54,31 @@ column-printed = refl
 pub input-printed : textOf 12 65536 [] ≡ 114 ∷ 101 ∷ 102 ∷ 117 ∷ 115 ∷ 101 ∷ 100 ∷ 32 ∷ 49 ∷ 50 ∷ 32 ∷ 97 ∷ 116 ∷ 32 ∷ 54 ∷ 53 ∷ 53 ∷ 51 ∷ 54 ∷ 10 ∷ []
 unfolding textOf refusalText digits
 input-printed = refl
+
+-- `verdict 54 at 0`, `stated cost not the weight of disagreeing entries`
+pub cost-judged : judgedText 54 0
+    ≡ 118 ∷ 101 ∷ 114 ∷ 100 ∷ 105 ∷ 99 ∷ 116 ∷ 32 ∷ 53 ∷ 52 ∷ 32 ∷ 97 ∷ 116 ∷ 32 ∷ 48 ∷ 10
+    ∷ 115 ∷ 116 ∷ 97 ∷ 116 ∷ 101 ∷ 100 ∷ 32
+    ∷ 99 ∷ 111 ∷ 115 ∷ 116 ∷ 32
+    ∷ 110 ∷ 111 ∷ 116 ∷ 32
+    ∷ 116 ∷ 104 ∷ 101 ∷ 32
+    ∷ 119 ∷ 101 ∷ 105 ∷ 103 ∷ 104 ∷ 116 ∷ 32
+    ∷ 111 ∷ 102 ∷ 32
+    ∷ 100 ∷ 105 ∷ 115 ∷ 97 ∷ 103 ∷ 114 ∷ 101 ∷ 101 ∷ 105 ∷ 110 ∷ 103 ∷ 32
+    ∷ 101 ∷ 110 ∷ 116 ∷ 114 ∷ 105 ∷ 101 ∷ 115 ∷ 10
+    ∷ []
+unfolding judgedText verdictWords digits
+cost-judged = refl
+
+-- `verdict 55 at 3`, `not least`
+pub least-judged : judgedText 55 3
+    ≡ 118 ∷ 101 ∷ 114 ∷ 100 ∷ 105 ∷ 99 ∷ 116 ∷ 32 ∷ 53 ∷ 53 ∷ 32 ∷ 97 ∷ 116 ∷ 32 ∷ 51 ∷ 10
+    ∷ 110 ∷ 111 ∷ 116 ∷ 32 ∷ 108 ∷ 101 ∷ 97 ∷ 115 ∷ 116 ∷ 10
+    ∷ []
+unfolding judgedText verdictWords digits
+least-judged = refl
+
+-- a refusal's line is that of `phase`
+pub column-judged : judgedText 9 3 ≡ textColumn
+unfolding judgedText refusalText digits
+column-judged = refl

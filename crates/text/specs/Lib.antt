@@ -1,3 +1,4 @@
 pub mod Text
+pub mod Verdict
 pub mod Put
 pub mod Examples

@@ -70,9 +70,13 @@ answerText answer =
     ++ (line hap1Word (map mark (take m (drop (17 + n) answer)))
     ++ line hap2Word (map mark (take m (drop (17 + n + m) answer))))))
 
--- one line of a refusal: the number, then the second number
+-- a word, the number, then the second number
+abbrev pub numbersLine : List ℕ → ℕ → ℕ → List ℕ
+numbersLine word number second = line word (decimal number ++ (atWord ++ decimal second))
+
+-- one line of a refusal
 unfoldable pub refusalText : ℕ → ℕ → List ℕ
-refusalText number second = line refusedWord (decimal number ++ (atWord ++ decimal second))
+refusalText number second = numbersLine refusedWord number second
 
 unfoldable pub textOf : ℕ → ℕ → List ℕ → List ℕ
 textOf number second answer = cond (eqb number 0) (answerText answer) (refusalText number second)

@@ -1,10 +1,12 @@
 // The text that `phase` prints: the five lines of an answer block, or the one line of a refusal.
+// And that of `judge`: the two lines of a verdict, or the one of a refusal.
 ghost use mathlib.Core.Path.{_≡_};
 ghost use mathlib.Core.List.{[], _∷_, _++_, map};
 ghost use Prim.Native.Nat.{_+_, _≤_, _<_};
 ghost use lib.ListN.{length, drop};
 ghost use Rattle.meaning.specs.Numbers.{word};
-ghost use Rattle.text.specs.Text.{decimal, mark, line, sidesWord, hap1Word, hap2Word, sidesText, answerText, refusalText, textOf};
+ghost use Rattle.text.specs.Text.{decimal, mark, line, sidesWord, hap1Word, hap2Word, sidesText, answerText, numbersLine, refusalText, textOf};
+ghost use Rattle.text.specs.Verdict.{verdictWords, judgedText};
 ghost use Rattle.text.specs.Put.{Put, Whole};
 
 // The character of a digit.
@@ -131,13 +133,43 @@ fn put_answer(text: &mut [u8], answer: &[u8]) -> usize
     put_letters(text, c, &answer[first..second], &answer[second..end])
 }
 
+// The line of a call's two numbers, behind the word for what they are.
+fn put_numbers(text: &mut [u8], name: &[u8], number: u32, second: u32) -> usize
+    requires { ⌜ length (now name) + 25 ≤ length (now text) ⌝ }
+    ensures { λ r. ⌜ Put (now (text .entry)) 0 (numbersLine (now (name .entry)) number second) (now (text .exit)) r ⌝ }
+    ensures { λ r. ⌜ r ≤ length (now (name .entry)) + 25 ⌝ }
+{
+    let start = put_bytes(text, 0, name);
+    let end = put_decimal(text, start, number);
+    put_number_line(text, end, b" at ", second)
+}
+
 fn put_refusal(text: &mut [u8], number: u32, second: u32) -> usize
     requires { ⌜ 33 ≤ length (now text) ⌝ }
     ensures { λ r. ⌜ Put (now (text .entry)) 0 (refusalText number second) (now (text .exit)) r ⌝ }
 {
-    let start = put_bytes(text, 0, b"refused ");
-    let end = put_decimal(text, start, number);
-    put_number_line(text, end, b" at ", second)
+    put_numbers(text, b"refused ", number, second)
+}
+
+// The line that says a verdict in words.
+fn put_words(text: &mut [u8], at: usize, number: u32) -> usize
+    requires { ⌜ at + 50 ≤ length (now text) ⌝ }
+    ensures { λ r. ⌜ Put (now (text .entry)) at (verdictWords number) (now (text .exit)) r ⌝ }
+{
+    match number {
+        50 => put_bytes(text, at, b"malformed\n"),
+        51 => put_bytes(text, at, b"other n or m\n"),
+        52 => put_bytes(text, at, b"a side above 1 or a letter above 2\n"),
+        53 => put_bytes(text, at, b"a - where that side's sums differ\n"),
+        54 => put_bytes(
+            text,
+            at,
+            b"stated cost not the weight of disagreeing entries\n",
+        ),
+        55 => put_bytes(text, at, b"not least\n"),
+        56 => put_bytes(text, at, b"least but other sides or letters than ours\n"),
+        _ => put_bytes(text, at, b"ours\n"),
+    }
 }
 
 // Writes from the front of `text` what `phase` prints for a call's two numbers and its answer block, and answers its length.
@@ -152,4 +184,18 @@ pub fn write_text(number: u32, second: u32, answer: &[u8], text: &mut [u8]) -> u
         return put_answer(text, answer);
     }
     put_refusal(text, number, second)
+}
+
+// Writes from the front of `text` what `judge` prints for a judging's two numbers, and answers its length.
+pub fn write_verdict(number: u32, second: u32, text: &mut [u8]) -> usize
+    requires { ⌜ 128 ≤ length (now text) ⌝ }
+    ensures { λ r. ⌜ r ≡ length (judgedText number second) ⌝ }
+    ensures { λ r. ⌜ r ≤ length (now (text .entry)) ⌝ }
+    ensures { λ _. ⌜ now (text .exit) ≡ judgedText number second ++ drop (length (judgedText number second)) (now (text .entry)) ⌝ }
+{
+    if number < 50 {
+        return put_refusal(text, number, second);
+    }
+    let end = put_numbers(text, b"verdict ", number, second);
+    put_words(text, end, number)
 }

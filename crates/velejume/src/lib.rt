@@ -4,7 +4,9 @@ ghost use Prim.Native.Nat.{_≤_};
 ghost use Rattle.meaning.specs.Block.{columnsField, readsField};
 ghost use Rattle.meaning.specs.Refusals.{blockRefusal};
 ghost use Rattle.meaning.specs.Call.{call};
+ghost use Rattle.meaning.specs.Judge.{judging};
 ghost use Rattle.solve.specs.Outcomes.{outcomeNumber, outcomeSecond, resultOf};
+ghost use Rattle.verdict.specs.Judgements.{judgementNumber, judgementSecond, judgedOf};
 
 // The number that a call returns, and its second number.
 pub struct Numbers {
@@ -140,4 +142,100 @@ pub extern "C" fn velejume_phase(
     let r = phase(block, work, out);
     *second = r.second;
     r.number
+}
+
+// A number with its second number.
+fn both(number: u32, second: u32) -> Numbers
+    ensures { λ r. ⌜ (r .number ≡ number) × (r .second ≡ second) ⌝ }
+{
+    Numbers {
+        number: number,
+        second: second,
+    }
+}
+
+// The two numbers of a judgement.
+fn judged(j: verdict::Judgement) -> Numbers
+    ensures { λ r. ⌜ (r .number ≡ judgementNumber j) × (r .second ≡ judgementSecond j) ⌝ }
+{
+    match j {
+        verdict::Judgement::Crowded(column) => both(9, column),
+        verdict::Judgement::Work(need) => both(10, need),
+        verdict::Judgement::Malformed => both(50, 0),
+        verdict::Judgement::OtherCounts => both(51, 0),
+        verdict::Judgement::UnknownMark => both(52, 0),
+        verdict::Judgement::FalseDash => both(53, 0),
+        verdict::Judgement::WrongCost => both(54, 0),
+        verdict::Judgement::NotLeast(least) => both(55, least),
+        verdict::Judgement::OtherAnswer => both(56, 0),
+        verdict::Judgement::Ours => both(57, 0),
+    }
+}
+
+// Room to work in for judging an answer to any block.
+fn judgement(
+    block: &[u8],
+    m: usize,
+    n: usize,
+    answer: &[u8],
+    work: &mut [u32],
+) -> verdict::Judgement
+    requires { ⌜ (blockRefusal 1 (now block) .number ≡ 0) × (m ≡ columnsField (now block)) × (n ≡ readsField (now block)) ⌝ }
+    requires { ⌜ (m ≤ 1024) × (n ≤ 1024) ⌝ }
+    ensures { λ r. ⌜ judgedOf r (now (work .exit)) ≡ judging (now (block .entry)) (now (answer .entry)) (now (work .entry)) ⌝ }
+{
+    let mut start = [0u32; 1024];
+    let mut first = [0u16; 1024];
+    let mut end = [0u16; 1024];
+    let mut count = [0u16; 1024];
+    let mut lists = [0u16; 12288];
+    let mut taken = [0u32; 2048];
+    let mut sides = [0u8; 1024];
+    verdict::judge(
+        block,
+        m,
+        n,
+        answer,
+        work,
+        &mut start,
+        &mut first,
+        &mut end,
+        &mut count,
+        &mut lists,
+        &mut taken,
+        &mut sides,
+    )
+}
+
+// Judges a builder's answer to a fragment block: a verdict, 50 to 57, with the table in the work room, or a refusal of the block that leaves it as it was.
+pub fn judge(block: &[u8], answer: &[u8], work: &mut [u32]) -> Numbers
+    ensures { λ r. ⌜ r .number ≡ judging (now (block .entry)) (now (answer .entry)) (now (work .entry)) .number ⌝ }
+    ensures { λ r. ⌜ r .second ≡ judging (now (block .entry)) (now (answer .entry)) (now (work .entry)) .second ⌝ }
+    ensures { λ r. ⌜ now (work .exit) ≡ judging (now (block .entry)) (now (answer .entry)) (now (work .entry)) .work ⌝ }
+{
+    let v = block::checked(block);
+    match v {
+        block::Verdict::Refused { number, second } => both(number, second),
+        block::Verdict::Passed { m, n } => {
+            let j = judgement(block, m, n, answer, work);
+            judged(j)
+        }
+    }
+}
+
+// The same for C: the number is returned, the second number goes to where `second` points.
+#[no_mangle]
+pub extern "C" fn velejume_judge(
+    block: &[u8],
+    answer: &[u8],
+    work: &mut [u32],
+    second: &mut u32,
+) -> u32
+    ensures { λ r. ⌜ r ≡ judging (now (block .entry)) (now (answer .entry)) (now (work .entry)) .number ⌝ }
+    ensures { λ _. ⌜ now (second .exit) ≡ judging (now (block .entry)) (now (answer .entry)) (now (work .entry)) .second ⌝ }
+    ensures { λ _. ⌜ now (work .exit) ≡ judging (now (block .entry)) (now (answer .entry)) (now (work .entry)) .work ⌝ }
+{
+    let j = judge(block, answer, work);
+    *second = j.second;
+    j.number
 }

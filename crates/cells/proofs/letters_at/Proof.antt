@@ -1,36 +1,26 @@
 use borrow.Author.Needs.{needs}
 use native.Mathlib.Omega.{arith}
 use mathlib.Core.Bool.{true, false}
-use Prim.Native.Nat.{ℕ, _+_, _<_}
-use lib.ListN.{length, getD}
+use Prim.Native.Nat.{_+_}
 use Rattle.meaning.specs.Block.{matrixOf}
 use Rattle.meaning.specs.Answer.{divisionOf}
 use Rattle.meaning.proofs.Formed.{formed, formed-placed}
 use Rattle.cells.specs.Laid.{Lettered}
-use Rattle.cells.proofs.Sides.{light-up}
-use Rattle.cells.proofs.Listed.{letter-listed, reported-listed, lettered}
+use Rattle.cells.proofs.Sides.{sided, light-up}
+use Rattle.cells.proofs.Listed.{letter-summed, reported-summed, lettered}
 use Rattle.cells.proofs.letters_at.Statement.{statement}
 use Rattle.cells.proofs.letters_at.Tie as tie
 
--- each read of the list has a side
-sided : (c : tie.Start) (i : ℕ) → i < c .args .p → getD (c .args .list .now) i 0 < length (c .args .sides .now)
-sided c i l = omega (arith, c .pre .0 .each-read i l, c .pre .1 .1)
-
-weights-at-requires : tie.Need-weights-at-requires
-weights-at-requires c κs = search needs
-
-by-sides-requires : tie.Need-by-sides-requires
-by-sides-requires c κs =
-    let s = c .before .before .before .before .before .before .before .before in
-    ((s .pre .0 .few, s .pre .0 .listed, light-up (c .before .weights-at .result) _ 255 65535 (omega arith) (c .before .weights-at .ensures .1)), sided s)
+sums-at-requires : tie.Need-sums-at-requires
+sums-at-requires c κs = search needs
 
 marks-at-requires : tie.Need-marks-at-requires
 marks-at-requires c κs = search needs
 
-by-sides-requires-2 : tie.Need-by-sides-requires-2
-by-sides-requires-2 c κs =
-    let s = c .before .before .before .before .before .before .before .before .before .before .before in
-    ((s .pre .0 .few, s .pre .0 .listed, light-up (c .before .marks-at .result) _ 255 65535 (omega arith) (c .before .marks-at .ensures .1)), sided s)
+by-sides-requires : tie.Need-by-sides-requires
+by-sides-requires c κs =
+    let s = c .before .before .before .before .before .before .before .before .before in
+    ((s .pre .0 .few, s .pre .0 .listed, light-up (c .before .marks-at .result) _ 255 65535 (omega arith) (c .before .marks-at .ensures .1)), sided (s .pre .0) (s .args .sides .now) (s .pre .1 .1))
 
 index-1-letter : tie.Need-index-1-letter
 index-1-letter c = search needs
@@ -105,7 +95,7 @@ against-requires-2 : tie.Need-against-requires-2
 against-requires-2 c κs = search needs
 
 -- the letters and the flips
-told : (c : tie.After-against2) → let a = c .before .before .before .before .before .before .before .before .before .before .before .before .before .before .before .before .before .before .before .before .before .before .before .before .before .before .before .before .args in
+told : (c : tie.After-against2) → let a = c .before .before .before .before .before .before .before .before .before .before .before .before .before .before .before .before .before .before .before .before .before .before .before .before .before .before .args in
     Lettered (matrixOf (a .block .now)) (divisionOf (a .sides .now)) (a .j)
     (record { first = c .before .before .before .before .before .before .before .reported .result; second = c .before .before .before .before .reported2 .result; flips = c .before .before .against .result + c .against2 .result })
 told c =
@@ -116,17 +106,16 @@ told c =
     let counted = first .before .before .before in
     let marked = counted .before .before in
     let summed = marked .before in
-    let weighed = summed .before .before in
-    let start = weighed .before .before .before .before .before .before .before in
+    let start = summed .before .before .before .before .before .before .before in
     let a = start .args in
     let b = a .block .now in
     let M = matrixOf b in
     let d = divisionOf (a .sides .now) in
     let laid = start .pre .0 in
     let placed = formed-placed 1 b (formed 1 b (laid .block-good)) in
-    let letter-of = letter-listed M placed (a .j) (a .list .now) (a .p) (laid .listed) (start .pre .1 .0) _ (weighed .weights-at .ensures .0) d _ (summed .by-sides .ensures) in
-    let reported-of = reported-listed M placed (a .j) (a .list .now) (a .p) (laid .listed) (start .pre .1 .0) _ (weighed .weights-at .ensures .0) d _ (summed .by-sides .ensures) in
-    lettered M placed (a .j) (a .list .now) (a .p) (laid .listed) (start .pre .1 .0) _ (marked .marks-at .ensures .0) d _ (counted .by-sides2 .ensures) (laid .few) _ _ _ _ _ _
+    let letter-of = letter-summed _ _ (summed .sums-at .ensures) in
+    let reported-of = reported-summed _ _ (summed .sums-at .ensures) in
+    lettered M placed (a .j) (a .list .now) (a .p) (laid .listed) (start .pre .1 .0) _ (marked .marks-at .ensures .0) d _ (counted .by-sides .ensures) (laid .few) _ _ _ _ _ _
     (reported-of false _ (shown .reported .ensures))
     (reported-of true _ (shown2 .reported2 .ensures))
     (letter-of false _ (first .letter .ensures))
@@ -134,8 +123,8 @@ told c =
     (c .before .before .against .ensures)
     (c .against2 .ensures)
 
-add-t61 : tie.Need-add-t61
-add-t61 c = omega (arith, told c .flips-few)
+add-t59 : tie.Need-add-t59
+add-t59 c = omega (arith, told c .flips-few)
 
 returns : tie.Need-returns
 returns c = told c
@@ -144,10 +133,9 @@ pub letters-at-spec : {M : Type 1} → statement M
 letters-at-spec =
     tie.close
     (tie.spec
-    weights-at-requires
-    by-sides-requires
+    sums-at-requires
     marks-at-requires
-    by-sides-requires-2
+    by-sides-requires
     index-1-letter
     index-2-letter
     index-1-letter-2
@@ -172,5 +160,5 @@ letters-at-spec =
     against-requires
     array-copy-out-against-2
     against-requires-2
-    add-t61
+    add-t59
     returns)

@@ -11,7 +11,7 @@ use Rattle.meaning.specs.Table.{columnsTo}
 use Rattle.meaning.specs.Call.{over}
 use Rattle.meaning.proofs.Bounds.{Bytes}
 use Rattle.solve.proofs.Sizes.{columns-are, ready-formed, ready-placed}
-use Rattle.solve.proofs.Tabled.{column-small, table-column, table-start, table-turn, table-end}
+use Rattle.solve.proofs.Filled.{column-small, table-column, table-start, table-turn, table-end}
 use borrow.Author.Needs.{needs}
 use Rattle.solve.proofs.fill_table.Statement.{statement}
 use Rattle.solve.proofs.fill_table.Tie as tie

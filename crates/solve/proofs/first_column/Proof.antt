@@ -9,7 +9,7 @@ use Rattle.meaning.specs.Call.{laid}
 use Rattle.solve.specs.Ready.{passedOver}
 use Rattle.solve.proofs.Sizes.{ColumnSizes, column-sizes}
 use Rattle.solve.proofs.Pass.{over-first}
-use Rattle.solve.proofs.Tabled.{first-fits}
+use Rattle.solve.proofs.Filled.{first-fits}
 use borrow.Author.Needs.{needs}
 use Rattle.solve.proofs.first_column.Statement.{statement}
 use Rattle.solve.proofs.first_column.Tie as tie

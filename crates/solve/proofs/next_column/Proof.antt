@@ -7,7 +7,7 @@ use lib.ListN.{length}
 use Rattle.meaning.specs.Block.{matrixOf}
 use Rattle.meaning.specs.Call.{laid}
 use Rattle.solve.proofs.Sizes.{ColumnSizes, column-sizes}
-use Rattle.solve.proofs.Tabled.{next-fits, next-over}
+use Rattle.solve.proofs.Filled.{next-fits, next-over}
 use borrow.Author.Needs.{needs}
 use Rattle.solve.proofs.next_column.Statement.{statement}
 use Rattle.solve.proofs.next_column.Tie as tie

@@ -1,0 +1,7 @@
+pub mod Searched
+pub mod Marks
+pub mod AtColumn
+pub mod Weighing
+pub mod Tabled
+pub mod Ours
+pub mod Verdicts

@@ -37,7 +37,7 @@ pub struct Case {
 }
 
 /// Any size, one that suffices in three cases of four.
-fn size(need: usize, random: &mut Random) -> (Size, usize) {
+pub fn size(need: usize, random: &mut Random) -> (Size, usize) {
     let enough = [Size::Exact, Size::OneMore, Size::Ample];
     let size = if random.one_in(4) { random.pick(&Size::ALL) } else { random.pick(&enough) };
     (size, size.of(need, random))

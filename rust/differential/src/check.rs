@@ -22,11 +22,16 @@ fn called(call: Call, before: &Rooms) -> (Numbers, Rooms) {
 }
 
 /// Whether trying every division takes no longer than some milliseconds.
-fn searchable(block: &[u8]) -> bool {
+pub fn searchable(block: &[u8]) -> bool {
     Block::read(block).is_ok_and(|block| {
         let with_cells = block.reads.iter().filter(|read| read.c() > 0).count();
         with_cells <= 12 && (block.columns * block.reads.len()) << with_cells <= 1 << 22
     })
+}
+
+/// Bytes as a message shows them.
+pub fn hexadecimal(bytes: &[u8]) -> String {
+    bytes.iter().map(|byte| format!("{byte:02x}")).collect()
 }
 
 /// A call must leave as it was: all on a refusal, else what lies beyond table and answer; the block and the guards always.
@@ -68,10 +73,7 @@ pub fn check(
 ) -> Result<(Numbers, bool), String> {
     let before = Rooms::random(block, work, out, random);
     let given = called(call, &before);
-    let fault = |fault: String| {
-        let block: String = block.iter().map(|byte| format!("{byte:02x}")).collect();
-        format!("{fault}; work {work}, out {out}, block {block}")
-    };
+    let fault = |fault: String| format!("{fault}; work {work}, out {out}, block {}", hexadecimal(block));
     kept(block, &before, &given).map_err(fault)?;
     same("columns", &given, &called(solver::columns, &before)).map_err(fault)?;
     let searched = searchable(block);

@@ -1,11 +1,21 @@
-//! The proved call against the independent solver: both numbers, every entry of the work room, every byte of the output,
-//! what lies beyond and around them, and the block itself.
+//! The proved calls against the independent solver: both numbers, every entry of the work room, every byte of the output,
+//! what lies beyond and around them, the block and the judged answer.
 
+mod builder;
 mod case;
 mod check;
+mod fault;
+mod judged;
+mod judging;
+mod parts;
 mod rooms;
 mod tally;
 
+pub use builder::Builder;
 pub use case::{Case, Size};
 pub use check::{Call, check, check_case, proved};
+pub use fault::Fault;
+pub use judged::{Judge, check_judge, check_judging, proved_judge};
+pub use judging::Judging;
+pub use parts::Parts;
 pub use tally::Tally;

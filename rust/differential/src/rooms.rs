@@ -34,6 +34,15 @@ impl<T: Copy + PartialEq> Room<T> {
     }
 }
 
+impl Room<u8> {
+    /// A room that holds these bytes.
+    pub fn holding(bytes: &[u8], random: &mut Random) -> Self {
+        let mut room = Room::filled(bytes.len(), || random.number() as u8);
+        room.lent().copy_from_slice(bytes);
+        room
+    }
+}
+
 /// The block, the work room and the output that one call is lent.
 #[derive(Clone, PartialEq, Eq)]
 pub struct Rooms {
@@ -45,12 +54,10 @@ pub struct Rooms {
 impl Rooms {
     /// Rooms of these sizes that hold anything.
     pub fn random(block: &[u8], work: usize, out: usize, random: &mut Random) -> Self {
-        let mut rooms = Rooms {
-            block: Room::filled(block.len(), || random.number() as u8),
+        Rooms {
+            block: Room::holding(block, random),
             work: Room::filled(work, || random.number() as u32),
             out: Room::filled(out, || random.number() as u8),
-        };
-        rooms.block.lent().copy_from_slice(block);
-        rooms
+        }
     }
 }

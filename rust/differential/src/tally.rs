@@ -1,6 +1,6 @@
 //! How many cases of each sort were compared, so that none is missing unseen.
 
-use crate::Case;
+use crate::{Case, Judging};
 use solver::Numbers;
 use std::collections::BTreeMap;
 use std::fmt;
@@ -25,16 +25,36 @@ impl Tally {
         }
         self.count("work room", case.work.0);
         self.count("output", case.out.0);
+        if self.checked(checked) == Some(0) {
+            self.count("T", case.width());
+        }
+    }
+
+    /// Notes a judged answer and what came of it.
+    pub fn note_judging(&mut self, case: &Judging, checked: Result<(Numbers, bool), String>) {
+        self.count("kind", case.kind);
+        if let Some(field) = case.field {
+            self.count("damaged", field);
+        }
+        self.count("work room", case.work.0);
+        self.count("answer", case.builder);
+        case.faults.iter().for_each(|fault| self.count("fault", fault));
+        self.checked(checked);
+    }
+
+    /// Notes what came of a case; gives the number, if all agree on it.
+    fn checked(&mut self, checked: Result<(Numbers, bool), String>) -> Option<u32> {
         match checked {
             Ok(((number, _), searched)) => {
                 self.passed += 1;
                 self.count("number", number);
                 self.count("every division tried", searched);
-                if number == 0 {
-                    self.count("T", case.width());
-                }
+                Some(number)
             }
-            Err(fault) => self.faults.push(fault),
+            Err(fault) => {
+                self.faults.push(fault);
+                None
+            }
         }
     }
 

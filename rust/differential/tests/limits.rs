@@ -3,6 +3,7 @@
 use blocks::{Gaps, Random, Style, Weights};
 use differential::{check, proved};
 use matrix::{Matrix, Row, set_length};
+use velejume::{OUTPUT_BYTES, WORK_ENTRIES};
 
 /// The numbers of a block in rooms of these sizes, once all agree on them.
 fn numbers(block: &[u8], work: usize, out: usize) -> (u32, u32) {
@@ -14,7 +15,7 @@ fn numbers(block: &[u8], work: usize, out: usize) -> (u32, u32) {
 
 /// The numbers in rooms that suffice for every block.
 fn ample(block: &[u8]) -> (u32, u32) {
-    numbers(block, 1024 * 2048, 4096)
+    numbers(block, WORK_ENTRIES, OUTPUT_BYTES)
 }
 
 /// So many reads over all columns, of entries 1:1.
@@ -100,6 +101,16 @@ fn rooms_just_large_enough_and_one_less() {
     assert_eq!(numbers(&large, 16383, 281), (10, 16384));
     assert_eq!(numbers(&large, 16384, 280), (11, 281));
     assert_eq!(numbers(&larger, 16384, 4096), (10, 16512));
+}
+
+#[test]
+fn the_largest_block_takes_all_of_the_rooms_that_suffice_for_every_one() {
+    let mut matrix = full(1024, 12);
+    matrix.rows.resize(1024, Row::default());
+    let block = matrix.block();
+    assert_eq!(ample(&block), (0, 0));
+    assert_eq!(numbers(&block, WORK_ENTRIES - 1, OUTPUT_BYTES), (10, WORK_ENTRIES as u32));
+    assert_eq!(numbers(&block, WORK_ENTRIES, OUTPUT_BYTES - 1), (11, OUTPUT_BYTES as u32));
 }
 
 #[test]

@@ -1,7 +1,7 @@
 //! The safe wrapper against the independent solver.
 
 use blocks::{Field, Kind, Random};
-use differential::Case;
+use differential::{Builder, Case, Judging};
 use velejume::Answer;
 
 /// An answer as document 01's answer block lays it out, from byte 5 on.
@@ -44,4 +44,25 @@ fn the_wrapper_gives_the_solvers_answers_and_refusals() {
     }
     println!("{answers} answers, refusals 1 to 9: {:?}", &refusals[1..]);
     assert!(answers > 1000 && refusals[1..].iter().all(|&count| count > 0));
+}
+
+#[test]
+fn the_wrapper_gives_the_solvers_verdicts_and_refusals() {
+    let mut random = Random::new(17);
+    let mut counts = [0; 58];
+    for i in 0..4000 {
+        let kind = if i % 100 == 0 { random.pick(&Kind::LARGE) } else { random.pick(&Kind::SMALL) };
+        let field = random.one_in(3).then(|| random.pick(&Field::ALL));
+        let Judging { block, answer, .. } = Judging::random(kind, field, random.pick(&Builder::ALL), &mut random);
+        let mut work = vec![0; solver::rooms(&block).map_or(0, |need| need.0)];
+        let wanted = solver::judge(solver::columns, &block, &answer, &mut work);
+        let given = match velejume::judge(&block, &answer) {
+            Ok(verdict) => (verdict.number(), verdict.second()),
+            Err(refusal) => (refusal.number(), refusal.second()),
+        };
+        assert_eq!(given, wanted, "{answer:?} to {block:?}");
+        counts[given.0 as usize] += 1;
+    }
+    println!("refusals 1 to 9: {:?}, verdicts 50 to 57: {:?}", &counts[1..10], &counts[50..]);
+    assert!(counts[1..10].iter().chain(&counts[50..]).all(|&count| count > 0));
 }

@@ -2,18 +2,23 @@
 //!
 //! [`exhaustive`] tries every division of the reads and is for small blocks. [`columns`] is the column
 //! method, written for speed. Both take the rooms that the proved call takes and leave in them what
-//! document 01 says, entry by entry and byte by byte.
+//! document 01 says, entry by entry and byte by byte. [`judge`] judges a builder's answer by either, as
+//! document 02 says.
 
 mod answer;
 mod block;
 mod checks;
 mod columns;
 mod exhaustive;
+mod judge;
+mod stated;
 
 pub use block::{Block, Read};
 pub use checks::rooms;
 pub use columns::columns;
 pub use exhaustive::exhaustive;
+pub use judge::{Phase, judge};
+pub use stated::Stated;
 
-/// The number of document 01's table, 0 on acceptance, and the second number.
+/// The number of document 01's table or of document 02's verdicts, 0 on acceptance, and the second number.
 pub type Numbers = (u32, u32);

@@ -1,6 +1,6 @@
-//! The proved call, under its C name.
+//! The proved calls, under their C names.
 
-use crate::Refusal;
+use crate::{Refusal, Verdict};
 
 unsafe extern "C" {
     fn velejume_phase(
@@ -12,9 +12,19 @@ unsafe extern "C" {
         out_len: usize,
         second: *mut u32,
     ) -> u32;
+
+    fn velejume_judge(
+        block: *const u8,
+        block_len: usize,
+        answer: *const u8,
+        answer_len: usize,
+        work: *mut u32,
+        work_len: usize,
+        second: *mut u32,
+    ) -> u32;
 }
 
-/// What a call returns: the number of document 01's table, 0 on acceptance, and the second number.
+/// What a call returns: 0 on acceptance, a verdict's number, or that of a refusal; and the second number.
 #[derive(Clone, Copy, Debug, PartialEq, Eq)]
 pub struct Numbers {
     pub number: u32,
@@ -22,12 +32,17 @@ pub struct Numbers {
 }
 
 impl Numbers {
-    /// The cost on acceptance, else the refusal.
+    /// Of [`phase_in`]: the cost on acceptance, else the refusal.
     pub fn cost(self) -> Result<u32, Refusal> {
         match self.number {
             0 => Ok(self.second),
             _ => Err(Refusal::read(self)),
         }
+    }
+
+    /// Of [`judge_in`]: the verdict, or the refusal of the block.
+    pub fn verdict(self) -> Result<Verdict, Refusal> {
+        Verdict::read(self)
     }
 }
 
@@ -59,6 +74,41 @@ pub fn phase_in(block: &[u8], work: &mut [u32], out: &mut [u8]) -> Numbers {
             work.len(),
             out.as_mut_ptr(),
             out.len(),
+            &mut second,
+        )
+    };
+    Numbers { number, second }
+}
+
+/// Judges a builder's answer to a fragment block in a work room that the caller lends, of any size.
+///
+/// Under each verdict the first m × T entries of `work` hold the table; what lies beyond is kept. A refusal of the block comes
+/// first and writes nothing.
+///
+/// ```
+/// use velejume::{Refusal, Verdict, judge_in};
+///
+/// let block = [1, 0, 0, 0, 10, 0, 1, 0, 1, 0, 4, 0, 0, 0, 7]; // 0:7
+/// let answer = [2, 0, 0, 0, 15, 0, 0, 0, 7, 0, 0, 0, 1, 0, 1, 0, 1, 0, 1, 2]; // cost 7, side 0, haplotypes 1 and -
+/// let mut work = [9; 2];
+/// assert_eq!(judge_in(&block, &answer, &mut work).verdict(), Ok(Verdict::NotLeast { least: 0 }));
+/// assert_eq!(work, [0, 9]);
+///
+/// let refusal = judge_in(&block, &answer, &mut []).verdict();
+/// assert_eq!(refusal, Err(Refusal::WorkRoom { need: 1 }));
+/// ```
+pub fn judge_in(block: &[u8], answer: &[u8], work: &mut [u32]) -> Numbers {
+    let mut second = 0;
+    // SAFETY: each pointer stands with the length of its slice, and the work room does not overlap the others. The call is
+    // proved to stay within them for every block, every answer and every length.
+    let number = unsafe {
+        velejume_judge(
+            block.as_ptr(),
+            block.len(),
+            answer.as_ptr(),
+            answer.len(),
+            work.as_mut_ptr(),
+            work.len(),
             &mut second,
         )
     };

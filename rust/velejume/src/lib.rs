@@ -1,7 +1,8 @@
 //! Haplotype phasing whose answer is proved to be the answer.
 //!
 //! [`phase`] takes a fragment block and gives the least cost, a side for each read, both haplotypes and the table, or says
-//! why the block is refused. [`phase_in`] is the proved call itself, for callers that lend their own rooms.
+//! why the block is refused. [`judge`] takes a builder's answer beside it and gives the first verdict that applies.
+//! [`phase_in`] and [`judge_in`] are the proved calls themselves, for callers that lend their own rooms.
 //!
 //! ```
 //! // the matrix of the WhatsHap paper's Figure 1: 0:5 . / 1:3 0:2 / 1:6 1:1 / . 0:2
@@ -24,10 +25,18 @@
 mod answer;
 mod call;
 mod refusal;
+mod verdict;
 
 pub use answer::{Answer, Letter, Table};
-pub use call::{Numbers, phase_in};
+pub use call::{Numbers, judge_in, phase_in};
 pub use refusal::Refusal;
+pub use verdict::Verdict;
+
+/// Work entries that suffice for every block: 1,024 columns with 12 active reads.
+pub const WORK_ENTRIES: usize = 1024 * 2048;
+
+/// Output bytes that suffice for every block: 1,024 reads and 1,024 columns.
+pub const OUTPUT_BYTES: usize = 17 + 1024 + 2 * 1024;
 
 /// Phases a fragment block. The rooms are as large as the call itself says that it needs.
 ///
@@ -52,4 +61,26 @@ pub fn phase(block: &[u8]) -> Result<Answer, Refusal> {
     };
     phase_in(block, &mut work, &mut out).cost()?;
     Ok(Answer::read(&out, work))
+}
+
+/// Judges a builder's answer to a fragment block. The room is as large as the call itself says that it needs.
+///
+/// ```
+/// use velejume::Verdict;
+///
+/// let block = [1, 0, 0, 0, 10, 0, 1, 0, 1, 0, 4, 0, 0, 0, 7]; // 0:7
+/// let mut answer = [2, 0, 0, 0, 15, 0, 0, 0, 0, 0, 0, 0, 0, 0, 1, 0, 1, 0, 0, 2]; // cost 0, side 0, haplotypes 0 and -
+/// assert_eq!(velejume::judge(&block, &answer), Ok(Verdict::Ours));
+///
+/// answer[18] = 1;
+/// let verdict = velejume::judge(&block, &answer).unwrap();
+/// assert_eq!((verdict.number(), verdict.second()), (54, 0));
+/// assert_eq!(verdict.to_string(), "stated cost not the weight of disagreeing entries");
+/// ```
+pub fn judge(block: &[u8], answer: &[u8]) -> Result<Verdict, Refusal> {
+    let mut work = match judge_in(block, answer, &mut []).verdict() {
+        Err(Refusal::WorkRoom { need }) => vec![0; need as usize],
+        other => return other,
+    };
+    judge_in(block, answer, &mut work).verdict()
 }

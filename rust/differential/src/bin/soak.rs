@@ -1,7 +1,7 @@
-//! soak SEED COUNT: so many random cases of every kind, a third of them damaged.
+//! soak SEED COUNT: so many random blocks of every kind, a third of them damaged, and as many judged answers.
 
 use blocks::{Field, Kind, Random};
-use differential::{Case, Tally, check_case};
+use differential::{Builder, Case, Judging, Tally, check_case, check_judging};
 use std::process::ExitCode;
 
 fn main() -> ExitCode {
@@ -12,14 +12,16 @@ fn main() -> ExitCode {
         return ExitCode::from(2);
     };
     let mut random = Random::new(seed);
-    let mut tally = Tally::default();
+    let (mut tally, mut judged) = (Tally::default(), Tally::default());
     for i in 0..count {
         let kinds: &[Kind] = if i % 50 == 0 { &Kind::LARGE } else { &Kind::SMALL };
         let kind = random.pick(kinds);
         let field = random.one_in(3).then(|| random.pick(&Field::ALL));
         let case = Case::random(kind, field, &mut random);
         tally.note(&case, check_case(&case, &mut random));
+        let case = Judging::random(kind, field, random.pick(&Builder::ALL), &mut random);
+        judged.note_judging(&case, check_judging(&case, &mut random));
     }
-    println!("{tally}");
-    if tally.good() { ExitCode::SUCCESS } else { ExitCode::FAILURE }
+    println!("{tally}\n{judged}");
+    if tally.good() && judged.good() { ExitCode::SUCCESS } else { ExitCode::FAILURE }
 }

@@ -1,0 +1,47 @@
+//! A bar on standard error that shows how far the work has come, where someone can see it.
+
+use std::io::{IsTerminal, Write, stderr};
+use std::time::{Duration, Instant};
+
+/// How many characters the bar has.
+const WIDTH: usize = 40;
+
+/// How often it is drawn at most.
+const PAUSE: Duration = Duration::from_millis(100);
+
+pub struct Progress {
+    done: usize,
+    total: usize,
+    /// when the bar was last drawn; None where nobody looks
+    drawn: Option<Instant>,
+}
+
+/// The bar, and how many of how many are done.
+pub fn bar(done: usize, total: usize) -> String {
+    let full = WIDTH * done / total.max(1);
+    format!("[{}{}] {done} of {total}", "#".repeat(full), ".".repeat(WIDTH - full))
+}
+
+impl Progress {
+    /// Nothing done of so many yet. The bar is drawn if standard error is a terminal.
+    pub fn new(total: usize) -> Self {
+        Progress { done: 0, total, drawn: stderr().is_terminal().then(Instant::now) }
+    }
+
+    /// One more is done.
+    pub fn step(&mut self) {
+        self.done += 1;
+        if self.drawn.is_some_and(|drawn| drawn.elapsed() >= PAUSE) {
+            self.drawn = Some(Instant::now());
+            // a bar that cannot be drawn is no reason to stop
+            let _ = write!(stderr(), "\r{}", bar(self.done, self.total));
+        }
+    }
+
+    /// Takes the bar away.
+    pub fn end(&mut self) {
+        if self.drawn.take().is_some() {
+            let _ = write!(stderr(), "\r\x1b[K");
+        }
+    }
+}

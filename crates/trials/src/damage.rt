@@ -33,7 +33,7 @@ pub const CUT: u8 = 9;
 
 pub const BEHIND: u8 = 10;
 
-fn byte_at(bytes: &Bytes, at: usize) -> usize
+pub fn byte_at(bytes: &Bytes, at: usize) -> usize
     ensures { λ r. ⌜ r ≤ 255 ⌝ }
 {
     if at < 8192 {
@@ -60,12 +60,12 @@ fn altered(x: usize, state: &mut u32) -> usize {
     }
 }
 
-fn alter_byte(bytes: &mut Bytes, at: usize, state: &mut u32) {
+pub fn alter_byte(bytes: &mut Bytes, at: usize, state: &mut u32) {
     let x = altered(byte_at(bytes, at), state);
     put(bytes, at, low(x));
 }
 
-fn alter_word(bytes: &mut Bytes, at: usize, state: &mut u32) {
+pub fn alter_word(bytes: &mut Bytes, at: usize, state: &mut u32) {
     let x = altered(word_at(bytes, at), state);
     put_word(bytes, at, x);
 }
@@ -121,7 +121,7 @@ fn shorter(bytes: &mut Bytes, size: usize, lost: usize, state: &mut u32) -> usiz
 }
 
 // Few bytes less, or any number of bytes.
-fn cut(bytes: &mut Bytes, size: usize, state: &mut u32) -> usize
+pub fn cut(bytes: &mut Bytes, size: usize, state: &mut u32) -> usize
     requires { ⌜ size ≤ 8192 ⌝ }
     ensures { λ r. ⌜ r ≤ 8192 ⌝ }
 {
@@ -131,7 +131,7 @@ fn cut(bytes: &mut Bytes, size: usize, state: &mut u32) -> usize
     shorter(bytes, size, within(state, 1, 8), state)
 }
 
-fn longer(bytes: &mut Bytes, size: usize, state: &mut u32) -> usize
+pub fn longer(bytes: &mut Bytes, size: usize, state: &mut u32) -> usize
     requires { ⌜ size ≤ 8192 ⌝ }
     ensures { λ r. ⌜ r ≤ 8192 ⌝ }
 {

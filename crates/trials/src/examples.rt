@@ -143,8 +143,8 @@ fn p4_to_p9(tally: &mut Tally, searched: &mut Tally) {
 }
 
 pub fn run(all: &mut Tally) {
-    let mut tally = [0usize; 14];
-    let mut searched = [0usize; 14];
+    let mut tally = [0usize; 22];
+    let mut searched = [0usize; 22];
     p1(&mut tally, &mut searched);
     p2(&mut tally, &mut searched);
     p3(&mut tally, &mut searched);

@@ -19,7 +19,7 @@ use crate::rooms::other_byte;
 use crate::rooms::other_entry;
 
 // Whether the two are the same. A difference is reported, in these three functions.
-fn same_numbers(name: &[u8], found: Numbers, expected: Numbers, tally: &mut Tally) -> bool {
+pub fn same_numbers(name: &[u8], found: Numbers, expected: Numbers, tally: &mut Tally) -> bool {
     if found.number != expected.number {
         differs(name, b"number", found.number, expected.number, tally);
         return false;
@@ -31,7 +31,7 @@ fn same_numbers(name: &[u8], found: Numbers, expected: Numbers, tally: &mut Tall
     true
 }
 
-fn same_work(name: &[u8], work: &Table, expected: &Table, tally: &mut Tally) -> bool {
+pub fn same_work(name: &[u8], work: &Table, expected: &Table, tally: &mut Tally) -> bool {
     let i = other_entry(work, expected);
     if i < 16385 {
         differs_at(

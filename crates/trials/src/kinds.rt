@@ -55,7 +55,7 @@ fn one(name: &[u8], shape: Shape, field: u8, state: &mut u32, tally: &mut Tally)
 
 // So many blocks of a shape, damaged in a field.
 fn kind(name: &[u8], shape: Shape, field: u8, blocks: usize, state: &mut u32, all: &mut Tally) {
-    let mut tally = [0usize; 14];
+    let mut tally = [0usize; 22];
     let mut i: usize = 0;
     while i < blocks {
         one(name, shape, field, state, &mut tally);

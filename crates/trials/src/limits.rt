@@ -144,7 +144,7 @@ fn rooms(tally: &mut Tally) {
 }
 
 pub fn run(all: &mut Tally) {
-    let mut tally = [0usize; 14];
+    let mut tally = [0usize; 22];
     headers(&mut tally);
     sizes(&mut tally);
     most_reads(&mut tally);

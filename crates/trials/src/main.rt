@@ -1,5 +1,7 @@
-// The cases of document 01 that are run: its examples, both sides of its limits, and generated blocks against an exhaustive solver that
-// shares nothing with the column method. Prints what was tried and the differences found.
+// The cases of documents 01 and 02 that are run: the examples, both sides of the limits, generated blocks against an exhaustive solver that
+// shares nothing with the column method, and builders' answers against a judging from that solver. Prints what was tried and the
+// differences found.
+mod answers;
 mod bytes;
 mod charge;
 mod damage;
@@ -7,6 +9,7 @@ mod examples;
 mod exhaustive;
 mod generate;
 mod held;
+mod judged;
 mod kinds;
 mod limits;
 mod matrix;
@@ -17,11 +20,13 @@ mod report;
 mod rooms;
 mod search;
 mod stated;
+mod verdicts;
 
 fn main() {
-    let mut all = [0usize; 14];
+    let mut all = [0usize; 22];
     examples::run(&mut all);
     limits::run(&mut all);
     kinds::run(&mut all);
+    judged::run(&mut all);
     report::end(&all);
 }

@@ -1,8 +1,9 @@
 // What the program prints: a line for each kind of block, and a line for each of the first differences.
 ghost use Prim.Native.Nat.{_<_};
 
-// How many calls gave each number from 0 to 11; behind these how many blocks were tried and how many differences were found.
-pub type Tally = [usize; 14];
+// How many calls gave each number from 0 to 11 and each verdict from 50 to 57; behind these how many were tried and how many differences
+// were found.
+pub type Tally = [usize; 22];
 
 fn say(text: &[u8]) {
     io::write_all(1, text);
@@ -13,28 +14,33 @@ fn say_number(x: usize) {
 }
 
 fn raise(tally: &mut Tally, i: usize, by: usize)
-    requires { ⌜ i < 14 ⌝ }
+    requires { ⌜ i < 22 ⌝ }
 {
     tally[i] = std::num::wrapping_add_usize(tally[i], by);
 }
 
-// One more block, whose call gave this number.
+// One more call, which gave this number.
 pub fn count(tally: &mut Tally, number: usize) {
     if number < 12 {
         raise(tally, number, 1);
     }
-    raise(tally, 12, 1);
+    if number >= 50 {
+        if number < 58 {
+            raise(tally, number - 38, 1);
+        }
+    }
+    raise(tally, 20, 1);
 }
 
-// One more difference, of the block that was tried last; whether it gets a line: the first eight of a kind do.
+// One more difference, of the call that was tried last; whether it gets a line: the first eight of a kind do.
 fn found_one(name: &[u8], what: &[u8], tally: &mut Tally) -> bool {
-    raise(tally, 13, 1);
-    if tally[13] > 8 {
+    raise(tally, 21, 1);
+    if tally[21] > 8 {
         return false;
     }
     say(name);
     say(b" ");
-    say_number(tally[12]);
+    say_number(tally[20]);
     say(b": ");
     say(what);
     true
@@ -71,23 +77,33 @@ pub fn differs_at(
     }
 }
 
-fn say_count(number: usize, blocks: usize) {
+// What the calls counted at a place gave.
+fn say_outcome(i: usize) {
+    if i == 0 {
+        say(b" accepted");
+        return;
+    }
+    if i < 12 {
+        say(b" refused by ");
+        say_number(i);
+        return;
+    }
+    say(b" judged ");
+    say_number(std::num::wrapping_add_usize(i, 38));
+}
+
+fn say_count(i: usize, blocks: usize) {
     if blocks == 0 {
         return;
     }
     say(b", ");
     say_number(blocks);
-    if number == 0 {
-        say(b" accepted");
-        return;
-    }
-    say(b" refused by ");
-    say_number(number);
+    say_outcome(i);
 }
 
 fn say_counts(tally: &Tally) {
     let mut i: usize = 0;
-    while i < 12 {
+    while i < 20 {
         say_count(i, tally[i]);
         i += 1;
     }
@@ -95,14 +111,14 @@ fn say_counts(tally: &Tally) {
 
 fn say_differences(tally: &Tally) {
     say(b"differences ");
-    say_number(tally[13]);
+    say_number(tally[21]);
     say(b"\n");
 }
 
 fn say_line(name: &[u8], tally: &Tally) {
     say(name);
     say(b": ");
-    say_number(tally[12]);
+    say_number(tally[20]);
     say(b" tried");
     say_counts(tally);
     say(b", ");
@@ -111,7 +127,7 @@ fn say_line(name: &[u8], tally: &Tally) {
 
 fn add(all: &mut Tally, tally: &Tally) {
     let mut i: usize = 0;
-    while i < 14 {
+    while i < 22 {
         raise(all, i, tally[i]);
         i += 1;
     }

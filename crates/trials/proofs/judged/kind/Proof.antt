@@ -1,0 +1,45 @@
+use borrow.Author.Needs.{needs}
+use Prim.Native.Nat.{_≤_, _-_}
+use Rattle.trials.proofs.judged.kind.Statement.{statement}
+use Rattle.trials.proofs.judged.kind.Tie as tie
+
+abbrev Inv-loop : tie.InvT-loop
+Inv-loop name answer amiss answers state₀ all tally₀ i₀ state tally i = i ≤ answers
+
+abbrev μ-loop : tie.MeasureT-loop
+μ-loop name answer amiss answers state₀ all tally₀ i₀ state tally i = answers - i
+
+loop-holds : tie.Need-loop-holds Inv-loop μ-loop
+loop-holds c = search needs
+
+one-requires : tie.Need-one-requires Inv-loop μ-loop
+one-requires c κs = search needs
+
+add-i : tie.Need-add-i Inv-loop μ-loop
+add-i c = search needs
+
+loop-less : tie.Need-loop-less Inv-loop μ-loop
+loop-less c = search needs
+
+loop-again : tie.Need-loop-again Inv-loop μ-loop
+loop-again c = search needs
+
+line-requires : tie.Need-line-requires Inv-loop μ-loop
+line-requires c κs = search needs
+
+returns : tie.Need-returns Inv-loop μ-loop
+returns c = search needs
+
+pub kind-spec : {M : Type 1} → statement M
+kind-spec =
+    tie.close
+    (tie.spec
+    Inv-loop
+    μ-loop
+    loop-holds
+    one-requires
+    add-i
+    loop-less
+    loop-again
+    line-requires
+    returns)

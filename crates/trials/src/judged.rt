@@ -1,0 +1,311 @@
+// Builders' answers, judged by `velejume::judge` and held against this program's own judging: both numbers and every work entry, those
+// that are not lent included. Answers to P1 with stated verdicts, then answers to generated blocks, kind by kind.
+ghost use Prim.Native.Nat.{_≤_};
+use crate::answers;
+use crate::answers::put_answer;
+use crate::bytes::Bytes;
+use crate::bytes::long;
+use crate::bytes::low;
+use crate::damage;
+use crate::damage::damage;
+use crate::exhaustive::measure;
+use crate::generate::Shape;
+use crate::generate::generate;
+use crate::held::same_numbers;
+use crate::held::same_work;
+use crate::random::below;
+use crate::random::within;
+use crate::refusals::Numbers;
+use crate::refusals::given;
+use crate::report::Tally;
+use crate::report::count;
+use crate::report::line;
+use crate::rooms::Table;
+use crate::rooms::fill_table;
+use crate::rooms::lent;
+use crate::verdicts::judging;
+
+// What else is amiss with a trial: nothing, a work room that is one short, a damaged block, or a block that is crowded.
+const NOTHING: u8 = 0;
+
+const SHORT: u8 = 1;
+
+const DAMAGED: u8 = 2;
+
+const CROWDED: u8 = 3;
+
+// An answer, judged in a work room of this size, against two numbers and what the room is to hold.
+fn against(
+    name: &[u8],
+    block: &[u8],
+    answer: &[u8],
+    work: usize,
+    expected: Numbers,
+    table: &Table,
+    tally: &mut Tally,
+)
+    requires { ⌜ work ≤ 16384 ⌝ }
+{
+    let mut room = [0u32; 16385];
+    fill_table(&mut room);
+    let r = velejume::judge(block, answer, &mut room[..work]);
+    let found = given(long(r.number), long(r.second));
+    count(tally, found.number);
+    if same_numbers(name, found, expected, tally) {
+        same_work(name, &room, table, tally);
+    }
+}
+
+// An answer against this program's own judging.
+fn against_judging(name: &[u8], block: &[u8], answer: &[u8], work: usize, tally: &mut Tally)
+    requires { ⌜ work ≤ 16384 ⌝ }
+{
+    let mut table = [0u32; 16385];
+    fill_table(&mut table);
+    let expected = judging(block, answer, work, &mut table);
+    against(name, block, answer, work, expected, &table, tally);
+}
+
+// An answer to P1 against its stated verdict, which this program's own judging has to give too.
+fn stated(answer: &[u8], number: usize, second: usize, tally: &mut Tally) {
+    let block =
+        b"\x01\x00\x00\x00\x20\x00\x02\x00\x04\x00\x04\x00\x00\x00\x05\x00\x06\x00\x00\x01\x03\x00\x02\x00\x06\x00\x00\x01\x06\x01\x01\x00\x04\x00\x01\x00\x02";
+    let name = b"answers to P1";
+    let mut table = [0u32; 16385];
+    fill_table(&mut table);
+    let own = judging(block, answer, 8, &mut table);
+    against(name, block, answer, 8, given(number, second), &table, tally);
+    same_numbers(name, own, given(number, second), tally);
+}
+
+// Ours is of cost 1, with sides 1000 and haplotypes 10 and 0-. Below it: version 1, m = 1, side 2, a `-` for 1, cost 2, all reads on side 0
+// with what that costs, and the sides exchanged.
+fn example(all: &mut Tally) {
+    let mut tally = [0usize; 22];
+    let ours =
+        b"\x02\x00\x00\x00\x14\x00\x00\x00\x01\x00\x00\x00\x01\x00\x04\x00\x02\x01\x00\x00\x00\x01\x00\x00\x02";
+    stated(ours, 57, 0, &mut tally);
+    let version =
+        b"\x01\x00\x00\x00\x14\x00\x00\x00\x01\x00\x00\x00\x01\x00\x04\x00\x02\x01\x00\x00\x00\x01\x00\x00\x02";
+    stated(version, 50, 0, &mut tally);
+    let columns =
+        b"\x02\x00\x00\x00\x12\x00\x00\x00\x01\x00\x00\x00\x01\x00\x04\x00\x01\x01\x00\x00\x00\x01\x00";
+    stated(columns, 51, 0, &mut tally);
+    let side =
+        b"\x02\x00\x00\x00\x14\x00\x00\x00\x01\x00\x00\x00\x01\x00\x04\x00\x02\x01\x00\x00\x02\x01\x00\x00\x02";
+    stated(side, 52, 0, &mut tally);
+    let dash =
+        b"\x02\x00\x00\x00\x14\x00\x00\x00\x01\x00\x00\x00\x01\x00\x04\x00\x02\x01\x00\x00\x00\x02\x00\x00\x02";
+    stated(dash, 53, 0, &mut tally);
+    let cost =
+        b"\x02\x00\x00\x00\x14\x00\x00\x00\x02\x00\x00\x00\x01\x00\x04\x00\x02\x01\x00\x00\x00\x01\x00\x00\x02";
+    stated(cost, 54, 0, &mut tally);
+    let one_side =
+        b"\x02\x00\x00\x00\x14\x00\x00\x00\x06\x00\x00\x00\x02\x00\x04\x00\x02\x00\x00\x00\x00\x01\x00\x02\x02";
+    stated(one_side, 55, 1, &mut tally);
+    let exchanged =
+        b"\x02\x00\x00\x00\x14\x00\x00\x00\x01\x00\x00\x00\x01\x00\x04\x00\x02\x00\x01\x01\x01\x00\x02\x01\x00";
+    stated(exchanged, 56, 0, &mut tally);
+    line(b"answers to P1", &tally, all);
+}
+
+// A work room that is ample or exact; or one short.
+fn some_work(block: &[u8], short: bool, state: &mut u32) -> usize
+    ensures { λ r. ⌜ r ≤ 16384 ⌝ }
+{
+    let need = lent(measure(block).work, 0).work;
+    if short {
+        if need > 0 {
+            return need - 1;
+        }
+    }
+    if below(state, 2) == 0 {
+        return need;
+    }
+    16384
+}
+
+// Few reads and columns, of one of the kinds of block.
+fn some_shape(state: &mut u32) -> Shape {
+    match below(state, 7) {
+        0 => Shape::new(6, 0, 6),
+        1 => Shape::new(12, 1, 6).holes(8),
+        2 => Shape::new(6, 1, 6).holes(4).weights(1, 9),
+        3 => Shape::new(5, 2, 7).holes(2).weights(1, 1),
+        4 => Shape::new(5, 2, 7).holes(3).weights(0, 1),
+        5 => Shape::new(5, 1, 7).holes(3).weights(0, 3).empty(3),
+        _ => Shape::new(9, 2, 7).holes(3).weights(0, 3).apart(),
+    }
+}
+
+fn shape_for(amiss: u8, state: &mut u32) -> Shape {
+    if amiss == CROWDED {
+        return Shape::new(2, 12, 14).weights(0, 3);
+    }
+    some_shape(state)
+}
+
+fn field_for(amiss: u8, state: &mut u32) -> u8 {
+    if amiss == DAMAGED {
+        return low(within(state, 1, 10));
+    }
+    damage::NONE
+}
+
+// The answer to a block of so many bytes.
+fn answered(b: Bytes, size: usize, answer: &mut Bytes, kind: u8, state: &mut u32) -> usize
+    requires { ⌜ size ≤ 8192 ⌝ }
+    ensures { λ r. ⌜ r ≤ 8192 ⌝ }
+{
+    put_answer(&b[..size], answer, kind, state)
+}
+
+fn tried(
+    name: &[u8],
+    b: Bytes,
+    size: usize,
+    answer: Bytes,
+    length: usize,
+    short: bool,
+    state: &mut u32,
+    tally: &mut Tally,
+)
+    requires { ⌜ (size ≤ 8192) × (length ≤ 8192) ⌝ }
+{
+    let block = &b[..size];
+    let work = some_work(block, short, state);
+    against_judging(name, block, &answer[..length], work, tally);
+}
+
+// One block and an answer to it. A block is damaged after it was answered.
+fn one(name: &[u8], kind: u8, amiss: u8, state: &mut u32, tally: &mut Tally) {
+    let mut b = [0u8; 8192];
+    let mut answer = [0u8; 8192];
+    let shape = shape_for(amiss, state);
+    let field = field_for(amiss, state);
+    let whole = generate(&mut b, shape, state);
+    let length = answered(b, whole, &mut answer, kind, state);
+    let size = damage(&mut b, whole, field, state);
+    tried(name, b, size, answer, length, amiss == SHORT, state, tally);
+}
+
+// So many answers of a kind.
+fn kind(name: &[u8], answer: u8, amiss: u8, answers: usize, state: &mut u32, all: &mut Tally) {
+    let mut tally = [0usize; 22];
+    let mut i: usize = 0;
+    while i < answers {
+        one(name, answer, amiss, state, &mut tally);
+        i += 1;
+    }
+    line(name, &tally, all);
+}
+
+fn sound(name: &[u8], answer: u8, answers: usize, state: &mut u32, all: &mut Tally) {
+    kind(name, answer, NOTHING, answers, state, all);
+}
+
+fn honest_kinds(state: &mut u32, all: &mut Tally) {
+    sound(b"answer ours", answers::OURS, 300, state, all);
+    sound(b"answer with other flips", answers::FLIPS, 300, state, all);
+    sound(
+        b"answer with sides exchanged",
+        answers::EXCHANGED,
+        300,
+        state,
+        all,
+    );
+    sound(
+        b"answer with one side exchanged",
+        answers::SIDE,
+        300,
+        state,
+        all,
+    );
+    sound(
+        b"answer of another division",
+        answers::DIVISION,
+        300,
+        state,
+        all,
+    );
+    sound(
+        b"answer with another letter",
+        answers::LETTER,
+        300,
+        state,
+        all,
+    );
+    sound(
+        b"answer with letters at ties",
+        answers::TIES,
+        300,
+        state,
+        all,
+    );
+}
+
+fn false_kinds(state: &mut u32, all: &mut Tally) {
+    sound(b"answer with another cost", answers::COST, 300, state, all);
+    sound(b"answer with `-` put", answers::DASH, 300, state, all);
+    sound(
+        b"answer with a mark damaged",
+        answers::MARK,
+        600,
+        state,
+        all,
+    );
+    sound(
+        b"answer with other counts",
+        answers::COUNTS,
+        300,
+        state,
+        all,
+    );
+    sound(
+        b"answer with a byte damaged",
+        answers::BYTE,
+        600,
+        state,
+        all,
+    );
+    sound(b"answer cut off", answers::CUT, 300, state, all);
+    sound(
+        b"answer with bytes behind",
+        answers::BEHIND,
+        300,
+        state,
+        all,
+    );
+}
+
+// The same blocks and answers in every run.
+pub fn run(all: &mut Tally) {
+    example(all);
+    let mut state: u32 = 19970823;
+    honest_kinds(&mut state, all);
+    false_kinds(&mut state, all);
+    kind(
+        b"answer judged in a short room",
+        answers::OURS,
+        SHORT,
+        300,
+        &mut state,
+        all,
+    );
+    kind(
+        b"answer to a damaged block",
+        answers::OURS,
+        DAMAGED,
+        900,
+        &mut state,
+        all,
+    );
+    kind(
+        b"answer to a crowded block",
+        answers::OURS,
+        CROWDED,
+        60,
+        &mut state,
+        all,
+    );
+}

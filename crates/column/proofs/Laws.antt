@@ -1,143 +1,29 @@
 -- The loops' turns and ends, over plain variables.
-use Prim.Native.Nat.{ℕ, zero, suc, _+_, _-_, _*_, _/_, _%_, _^_, _≤_, _<_, min}
-use borrow.Author.Tests.{lt-ltb, le-ltb, eq-eqb, ne-eqb, ltb-true, ltb-false, eqb-true, eqb-false}
-use lib.Bits.{bitAnd, bitXor, and-mask, xor-lt}
+use Prim.Native.Nat.{ℕ, zero, suc, _+_, _-_, _*_, _%_, _^_, _≤_, _<_, min}
+use borrow.Author.Tests.{eq-eqb, ne-eqb, ltb-true, ltb-false, eqb-true, eqb-false}
+use lib.Bits.{bitAnd, and-mask}
 use lib.Dec.{ltb, eqb}
 use lib.ListN.{length, getD, set}
-use lib.Pow.{pow-pos, shl-exact}
+use lib.Pow.{shl-exact}
 use lib.Seq.{getD-set-same, getD-set-other, ext-getD}
 use mathlib.Core.Bool.{Bool, true, false, cond, _&&_, _||_}
 use mathlib.Core.List.{List, [], _∷_}
 use mathlib.Core.Logic.{_≢_}
-use mathlib.Core.Path.{_≡_, refl, sym, ap, ap₂, _∙_, subst}
-use native.Mathlib.Nat.{mul-le-mul-left, le-refl, one-mul, lt-of-mul-lt-mul-right, le-antisymm, le-of-mul-le-mul-right, mul-comm, add-zero, zero-add}
+use mathlib.Core.Path.{_≡_, refl, sym, ap, ap₂, _∙_}
+use native.Mathlib.Nat.{mul-le-mul-left, one-mul, lt-of-mul-lt-mul-right, le-antisymm, le-of-mul-le-mul-right, mul-comm, add-zero, zero-add}
 use native.Mathlib.Numerals.{add-one}
 use native.Mathlib.Omega.{arith}
-use Rattle.fold.specs.Turn.{foldTo, sideAt}
 use Rattle.meaning.specs.Numbers.{bigEndian, minTo, sumTo, run}
 use Rattle.meaning.specs.Block.{cellAt}
 use Rattle.meaning.specs.Active.{used}
-use Rattle.meaning.specs.Division.{Side}
-use Rattle.meaning.specs.Charge.{Sums, against, charge}
+use Rattle.meaning.specs.Charge.{against}
 use Rattle.meaning.specs.Refusals.{badCell}
 use Rattle.meaning.specs.Rule.{leastAt}
 use Rattle.meaning.proofs.Totals.{sum-zero}
 use Rattle.meaning.proofs.Lists.{length-run, getD-run}
 use Rattle.meaning.proofs.Refusals.{or-false-left}
-use Rattle.column.specs.Sums.{sumsOf, arrayOf, Small, pairOf, weightOf, LightPairs, sumsWith, sideOf, movedSums, Movable}
-use Rattle.column.specs.Pass.{Room, entryAt, passed}
-use Rattle.column.proofs.Moves.{sums-of-array, sums-with-ext, moved-sums, sums-small, charge-small, sums-movable}
-
--- the first n reads on the sides that k's digits give, every other on side 0
-abbrev sidesTo : ℕ → ℕ → ℕ → Side
-sidesTo k n q = cond (ltb q n) (sideAt k q) false
-
-pub side-digit : (k i : ℕ) → sideAt k (i + 1) ≡ sideOf (k / 2 ^ i % 2)
-side-digit k i = ap (sideAt k) (add-one i)
-
--- what one index's loop has when n reads are on their sides: the four sums and the folded index
-pub record Stands (w : List (List ℕ)) (turn : List ℕ) (p k n : ℕ) (s : List (List ℕ)) (q : ℕ) : Type 0 where
-  pub sums-are : s ≡ arrayOf (sumsWith w p (sidesTo k n))
-  pub fold-is : q ≡ foldTo turn k n
-
-module _ (w : List (List ℕ)) (turn : List ℕ) (p k : ℕ) where
-  pub stands-start : (s : List (List ℕ)) → s ≡ arrayOf (sumsWith w p (λ i. false)) → Stands w turn p k 1 s 0
-  unfolding foldTo
-  stands-start s e = record { sums-are = e ∙ ap arrayOf (sums-with-ext w p (λ i l. go i)); fold-is = refl }
-    where
-      go : (i : ℕ) → false ≡ sidesTo k 1 i
-      go zero = refl
-      go (suc i) = sym (ap (λ (b : Bool). cond b (sideAt k (suc i)) false) (le-ltb (suc i) 1 (omega arith)))
-
-  fold-more : (n : ℕ) → foldTo turn k (n + 1) ≡ cond (sideAt k n) (bitXor (foldTo turn k n) (getD turn n 0)) (foldTo turn k n)
-  unfolding foldTo
-  fold-more n = ap (foldTo turn k) (add-one n)
-
-  -- read n's turn: its side was 0, is that of its digit, and every other read's is as before
-  side-was : (n : ℕ) → sidesTo k n n ≡ false
-  side-was n = ap (λ (b : Bool). cond b (sideAt k n) false) (le-ltb n n (omega arith))
-
-  side-is : (n : ℕ) → sidesTo k (n + 1) n ≡ sideAt k n
-  side-is n = ap (λ (b : Bool). cond b (sideAt k n) false) (lt-ltb n (n + 1) (omega arith))
-
-  side-else : (n q : ℕ) → q ≢ n → sidesTo k n q ≡ sidesTo k (n + 1) q
-  side-else n q ne = go (ltb q n) refl
-    where
-      go : (b : Bool) → ltb q n ≡ b → cond b (sideAt k q) false ≡ sidesTo k (n + 1) q
-      go true e = sym (ap (λ (b : Bool). cond b (sideAt k q) false) (lt-ltb q (n + 1) (omega (arith, ltb-true q n e))))
-      go false e = sym (ap (λ (b : Bool). cond b (sideAt k q) false) (le-ltb q (n + 1) (omega (arith, ltb-false q n e))))
-
-  module _ (n : ℕ) (s : List (List ℕ)) (q : ℕ) (st : Stands w turn p k n s q) where
-    sums-now : sumsOf s ≡ sumsWith w p (sidesTo k n)
-    sums-now = ap sumsOf (st .sums-are) ∙ sums-of-array (sumsWith w p (sidesTo k n))
-
-    turned : (b : Bool) → sideAt k n ≡ b → cond b (bitXor q (getD turn n 0)) q ≡ foldTo turn k (n + 1)
-    turned b e =
-        ap (λ (f : ℕ). cond b (bitXor f (getD turn n 0)) f) (st .fold-is)
-        ∙ ap (λ (t : Bool). cond t (bitXor (foldTo turn k n) (getD turn n 0)) (foldTo turn k n)) (sym e)
-        ∙ sym (fold-more n)
-
-    pub stands-move : (t : List (List ℕ)) (f : ℕ) → n < p → sideAt k n ≡ true
-        → t ≡ arrayOf (movedSums (sumsOf s) (weightOf w n) false) → f ≡ bitXor q (getD turn n 0) → Stands w turn p k (n + 1) t f
-    stands-move t f l one e ef =
-        record {
-          sums-are =
-              e ∙ ap (λ (x : Sums). arrayOf (movedSums x (weightOf w n) false)) sums-now
-              ∙ ap arrayOf (sym (moved-sums w p n false l (side-was n) (side-is n ∙ one) (side-else n)));
-          fold-is = ef ∙ turned true one;
-        }
-
-    pub stands-keep : (t : List (List ℕ)) (f : ℕ) → sideAt k n ≡ false → t ≡ s → f ≡ q → Stands w turn p k (n + 1) t f
-    stands-keep t f off e ef =
-        record {
-          sums-are = e ∙ st .sums-are ∙ ap arrayOf (sums-with-ext w p (λ j l. go j (eqb j n) refl));
-          fold-is = ef ∙ turned false off;
-        }
-      where
-        go : (j : ℕ) (b : Bool) → eqb j n ≡ b → sidesTo k n j ≡ sidesTo k (n + 1) j
-        go j true e =
-            let z : j ≡ n = eqb-true j n e in
-            ap (sidesTo k n) z ∙ side-was n ∙ sym (ap (sidesTo k (n + 1)) z ∙ side-is n ∙ off)
-        go j false e = side-else n j (eqb-false j n e)
-
-    -- the sums are small, and read n can move
-    module _ (few : p ≤ 12) (light : LightPairs w p 65535) where
-      pub stands-small : Small (sumsOf s)
-      stands-small = subst Small (sym sums-now) (sums-small w p few light (sidesTo k n))
-
-      pub stands-charge : charge (sumsOf s) ≤ 786420
-      stands-charge = subst (λ (x : Sums). charge x ≤ 786420) (sym sums-now) (charge-small w p few light (sidesTo k n))
-
-      pub stands-movable : n < p → Movable (sumsOf s) (weightOf w n) false
-      stands-movable l = subst (λ (x : Sums). Movable x (weightOf w n) false) (sym sums-now) (sums-movable w p few light (sidesTo k n) n false l (side-was n))
-
--- every read is on its side
-fold-last : (turn : List ℕ) (k p i : ℕ) → i ≤ p - 1 → p ≤ i + 1 → foldTo turn k (i + 1) ≡ foldTo turn k p
-unfolding foldTo
-fold-last turn k zero i a b = ap (λ (n : ℕ). foldTo turn k (n + 1)) (let z : i ≡ 0 = omega arith in z)
-fold-last turn k (suc n) i a b = ap (foldTo turn k) (let z : i + 1 ≡ suc n = omega arith in z)
-
-pub stands-end : (w : List (List ℕ)) (turn : List ℕ) (p k i : ℕ) (s : List (List ℕ)) (q : ℕ) (taken : List ℕ) → Stands w turn p k (i + 1) s q → i ≤ p - 1 → p ≤ i + 1
-    → charge (sumsOf s) + getD taken q 0 ≡ entryAt w turn taken p k
-unfolding entryAt
-stands-end w turn p k i s q taken st a b =
-    ap₂ (λ (x : Sums) (f : ℕ). charge x + getD taken f 0)
-    (sums-now w turn p k (i + 1) s q st ∙ sums-with-ext w p (λ j l. ap (λ (b : Bool). cond b (sideAt k j) false) (lt-ltb j (i + 1) (omega arith))))
-    (st .fold-is ∙ fold-last turn k p i a b)
-
--- a folded index has its entry
-pub fold-lt : (turn : List ℕ) (p : ℕ) (taken : List ℕ) (r : Room turn p taken) (k n : ℕ) → n ≤ p → foldTo turn k n < 2 ^ (r .digits)
-unfolding foldTo
-fold-lt turn p taken r k zero l = pow-pos (r .digits)
-fold-lt turn p taken r k (suc n) l = go (sideAt k n) (fold-lt turn p taken r k n (omega arith))
-  where
-    go : (b : Bool) → foldTo turn k n < 2 ^ (r .digits) → cond b (bitXor (foldTo turn k n) (getD turn n 0)) (foldTo turn k n) < 2 ^ (r .digits)
-    go true ih = xor-lt (r .digits) (foldTo turn k n) (getD turn n 0) ih (r .turns n l)
-    go false ih = ih
-
-pub fold-fits : (w : List (List ℕ)) (turn : List ℕ) (p k i : ℕ) (s : List (List ℕ)) (q : ℕ) (taken : List ℕ) (r : Room turn p taken)
-    → Stands w turn p k (i + 1) s q → i ≤ p - 1 → p ≤ i + 1 → q < 2 ^ (r .digits)
-fold-fits w turn p k i s q taken r st a b = rw (st .fold-is ∙ fold-last turn k p i a b) (fold-lt turn p taken r k p (le-refl p))
+use Rattle.column.specs.Sums.{arrayOf, pairOf, weightOf, sumsWith, sideOf}
+use Rattle.column.specs.Pass.{entryAt, passed}
 
 -- a side by its number
 pub side-zero : (n : ℕ) → n ≡ 0 → sideOf n ≡ false
@@ -190,15 +76,17 @@ leaf-end w p a b ea eb =
     ap₂ (λ (x y : ℕ). (x ∷ y ∷ []) ∷ (0 ∷ 0 ∷ []) ∷ []) ea eb
     ∙ ap (λ (z : ℕ). (sumTo p (λ i. weightOf w i false) ∷ sumTo p (λ i. weightOf w i true) ∷ []) ∷ (z ∷ z ∷ []) ∷ []) z
 
--- a store at k, where the list is g's below k
-pub stored : (l : List ℕ) (k v : ℕ) (g : ℕ → ℕ) → k < length l → ((j : ℕ) → j < k → getD l j 0 ≡ g j) → v ≡ g k → (j : ℕ) → j < k + 1 → getD (set l k v) j 0 ≡ g j
-stored l k v g lt h e j lj = go (eqb j k) refl
+-- a store of g's value at k, where every other that is asked for is g's
+pub stored-at : (l : List ℕ) (k v : ℕ) (g : ℕ → ℕ) → k < length l → v ≡ g k → (j : ℕ) → (j ≢ k → getD l j 0 ≡ g j) → getD (set l k v) j 0 ≡ g j
+stored-at l k v g lt e j h = go (eqb j k) refl
   where
     go : (b : Bool) → eqb j k ≡ b → getD (set l k v) j 0 ≡ g j
-    go true t =
-        let z : j ≡ k = eqb-true j k t in
-        ap (λ (i : ℕ). getD (set l k v) i 0) z ∙ getD-set-same l k v 0 lt ∙ e ∙ ap g (sym z)
-    go false t = let ne : j ≢ k = eqb-false j k t in getD-set-other l k j v 0 ne ∙ h j (omega arith)
+    go true t = let z : j ≡ k = eqb-true j k t in rw z (getD-set-same l k v 0 lt ∙ e)
+    go false t = let ne : j ≢ k = eqb-false j k t in getD-set-other l k j v 0 ne ∙ h ne
+
+-- a store at k, where the list is g's below k
+pub stored : (l : List ℕ) (k v : ℕ) (g : ℕ → ℕ) → k < length l → ((j : ℕ) → j < k → getD l j 0 ≡ g j) → v ≡ g k → (j : ℕ) → j < k + 1 → getD (set l k v) j 0 ≡ g j
+stored l k v g lt h e j lj = stored-at l k v g lt e j (λ ne. h j (omega arith))
 
 -- the pass and the zeros behind it
 pub filled : (w : List (List ℕ)) (turn taken : List ℕ) (p n from : ℕ) (mid last : List ℕ) → from ≡ used p

@@ -1,3 +1,5 @@
 pub mod Moves
 pub mod Join
 pub mod Laws
+pub mod Gray
+pub mod Walk

@@ -73,9 +73,6 @@ module _ (w : List (List ℕ)) (p : ℕ) where
     put-else : (q : ℕ) → q ≢ i → side q ≡ put i (not from) side q
     put-else q ne = sym (ap (λ (b : Bool). cond b (not from) (side q)) (ne-eqb q i ne))
 
-    pub put-sums : sumsWith w p (put i (not from) side) ≡ movedSums (sumsWith w p side) (weightOf w i) from
-    put-sums = moved-sums i from below {side = side} {turned = put i (not from) side} was put-here put-else
-
     pub put-there : (l : Letter) → weightOf w i l ≤ sumsWith w p side from l
     put-there = moved-there i from below {side = side} {turned = put i (not from) side} was put-here put-else
 

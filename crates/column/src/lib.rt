@@ -1,9 +1,11 @@
 // One column: the four sums, the charge, the pass that writes the column's entries, and what the next column takes over.
 ghost use mathlib.Core.Path.{_≡_};
 ghost use mathlib.Core.Bool.{false, cond};
-ghost use Prim.Native.Nat.{ℕ, _+_, _*_, _/_, _≤_, _<_, min};
+ghost use Prim.Native.Nat.{ℕ, _+_, _*_, _/_, _%_, _^_, _≤_, _<_, min};
 ghost use lib.ListN.{length, getD};
 ghost use lib.Dec.{ltb};
+ghost use lib.Bits.{bitXor};
+ghost use lib.Count.{trailingZeros};
 ghost use Rattle.meaning.specs.Block.{cellAt};
 ghost use Rattle.meaning.specs.Active.{used};
 ghost use Rattle.meaning.specs.Charge.{charge};
@@ -11,6 +13,7 @@ ghost use Rattle.meaning.specs.Refusals.{badCell};
 ghost use Rattle.meaning.specs.Rule.{leastAt};
 ghost use Rattle.column.specs.Sums.{sumsOf, arrayOf, Small, LightPairs, pairOf, pairAt, sumsWith, sideOf, movedSums, Movable};
 ghost use Rattle.column.specs.Pass.{Room, entryAt, passed};
+ghost use Rattle.column.specs.Walk.{At, Written, Keeps};
 
 pub fn least(a: u32, b: u32) -> u32
     ensures { λ r. ⌜ r ≡ min a b ⌝ }
@@ -77,34 +80,6 @@ fn moved(s: [[u32; 2]; 2], w: [u32; 2], from: usize) -> [[u32; 2]; 2]
     }
 }
 
-// Entry k: from all reads on side 0, each read whose digit is 1 moves to side 1 and turns the index of what is taken over.
-fn entry(
-    w: &[[u32; 2]; 12],
-    turn: &[usize; 12],
-    p: usize,
-    start: [[u32; 2]; 2],
-    taken: &[u32],
-    k: usize,
-) -> u32
-    requires { ⌜ (p ≤ 12) × LightPairs (now w) p 65535 ⌝ }
-    requires { ⌜ start ≡ arrayOf (sumsWith (now w) p (λ i. false)) ⌝ }
-    requires { ⌜ Room (now turn) p (now taken) ⌝ }
-    ensures { λ r. ⌜ r ≡ entryAt (now (w .entry)) (now (turn .entry)) (now (taken .entry)) p k ⌝ }
-{
-    let mut s = start;
-    let mut q: usize = 0;
-    let mut i: usize = 0;
-    while i + 1 < p {
-        if (k >> i) & 1 == 1 {
-            q = q ^ turn[i + 1];
-            let t = moved(s, w[i + 1], 0);
-            s = t;
-        }
-        i += 1;
-    }
-    charged(s) + taken[q]
-}
-
 // How many entries a column with p active reads has.
 pub fn entries(p: usize) -> usize
     requires { ⌜ p ≤ 12 ⌝ }
@@ -113,7 +88,76 @@ pub fn entries(p: usize) -> usize
     if p == 0 { 1 } else { 1 << (p - 1) }
 }
 
-// The entries that stand for a division.
+// An entry from its four sums and its folded index.
+fn entry(s: [[u32; 2]; 2], taken: &[u32], q: usize) -> u32
+    requires { ⌜ Small (sumsOf s) × (q < length (now taken)) × (charge (sumsOf s) + getD (now taken) q 0 ≤ 4294967295) ⌝ }
+    ensures { λ r. ⌜ r ≡ charge (sumsOf s) + getD (now (taken .entry)) q 0 ⌝ }
+{
+    charged(s) + taken[q]
+}
+
+// The digit that step n turns: the lowest that is 1 in n.
+fn digit(n: usize) -> usize
+    requires { ⌜ (0 < n) × (n < 2048) ⌝ }
+    ensures { λ r. ⌜ (r ≡ trailingZeros 64 n) × (r < 11) ⌝ }
+{
+    u64::trailing_zeros(n as u64) as usize
+}
+
+// One step: the read of digit d swaps sides, so its pair moves among the four sums and its mask turns the folded index. The entry of the index
+// that this leads to is written.
+fn step(
+    w: &[[u32; 2]; 12],
+    turn: &[usize; 12],
+    p: usize,
+    s: [[u32; 2]; 2],
+    k: usize,
+    q: usize,
+    d: usize,
+    from: usize,
+    taken: &[u32],
+    part: &mut [u32],
+) -> [[u32; 2]; 2]
+    requires { ⌜ (d + 1 < p) × (from ≡ k / 2 ^ d % 2) × At (now w) (now turn) p (now taken) (now part) s k q ⌝ }
+    ensures { λ r. ⌜ At (now (w .entry)) (now (turn .entry)) p (now (taken .entry)) (now (part .exit)) r (bitXor k (2 ^ d)) (bitXor q (getD (now (turn .entry)) (d + 1) 0)) ⌝ }
+    ensures { λ _. ⌜ Written (now (w .entry)) (now (turn .entry)) p (now (taken .entry)) (now (part .exit)) (bitXor k (2 ^ d)) ⌝ }
+    ensures { λ _. ⌜ Keeps (now (w .entry)) (now (turn .entry)) p (now (taken .entry)) (now (part .entry)) (now (part .exit)) ⌝ }
+{
+    let t = moved(s, w[d + 1], from);
+    let to = k ^ (1 << d);
+    let folded = q ^ turn[d + 1];
+    part[to] = entry(t, taken, folded);
+    t
+}
+
+// The three steps after every fourth: digit 0 goes to side 1, digit 1 turns, digit 0 comes back.
+fn three(
+    w: &[[u32; 2]; 12],
+    turn: &[usize; 12],
+    p: usize,
+    s: [[u32; 2]; 2],
+    k: usize,
+    q: usize,
+    taken: &[u32],
+    part: &mut [u32],
+) -> [[u32; 2]; 2]
+    requires { ⌜ (3 ≤ p) × (k % 2 ≡ 0) × At (now w) (now turn) p (now taken) (now part) s k q ⌝ }
+    ensures { λ r. ⌜ At (now (w .entry)) (now (turn .entry)) p (now (taken .entry)) (now (part .exit)) r (bitXor k 2) (bitXor q (getD (now (turn .entry)) 2 0)) ⌝ }
+    ensures { λ _. ⌜ Written (now (w .entry)) (now (turn .entry)) p (now (taken .entry)) (now (part .exit)) (bitXor k 1) ⌝ }
+    ensures { λ _. ⌜ Written (now (w .entry)) (now (turn .entry)) p (now (taken .entry)) (now (part .exit)) (bitXor (bitXor k 1) 2) ⌝ }
+    ensures { λ _. ⌜ Written (now (w .entry)) (now (turn .entry)) p (now (taken .entry)) (now (part .exit)) (bitXor k 2) ⌝ }
+    ensures { λ _. ⌜ Keeps (now (w .entry)) (now (turn .entry)) p (now (taken .entry)) (now (part .entry)) (now (part .exit)) ⌝ }
+{
+    let a = step(w, turn, p, s, k, q, 0, 0, taken, part);
+    let i = k ^ 1;
+    let f = q ^ turn[1];
+    let b = step(w, turn, p, a, i, f, 1, (k >> 1) & 1, taken, part);
+    step(w, turn, p, b, i ^ 2, f ^ turn[2], 0, 1, taken, part)
+}
+
+// The entries that stand for a division, in Gray code order (the paper, section 3, "Algorithm engineering"): k is the index of a division and q its
+// folded index. From one index to the next only one read swaps sides. Of every four steps the first turns the digit that its number gives, and the
+// others turn digits 0, 1 and 0.
 fn pass(w: &[[u32; 2]; 12], turn: &[usize; 12], p: usize, taken: &[u32], part: &mut [u32])
     requires { ⌜ (p ≤ 12) × LightPairs (now w) p 65535 ⌝ }
     requires { ⌜ Room (now turn) p (now taken) ⌝ }
@@ -121,12 +165,29 @@ fn pass(w: &[[u32; 2]; 12], turn: &[usize; 12], p: usize, taken: &[u32], part: &
     ensures { λ _. ⌜ ((k : ℕ) → k < used p → getD (now (part .exit)) k 0 ≡ entryAt (now (w .entry)) (now (turn .entry)) (now (taken .entry)) p k) ⌝ }
 {
     let start = sums(w, p);
+    part[0] = entry(start, taken, 0);
+    if p < 3 {
+        if p == 2 {
+            step(w, turn, p, start, 0, 0, 0, 0, taken, part);
+        }
+        return;
+    }
     let e = entries(p);
-    let mut k: usize = 0;
-    while k < e {
-        let next = k + 1;
-        part[k] = entry(w, turn, p, start, taken, k);
-        k = next;
+    let mut s = three(w, turn, p, start, 0, 0, taken, part);
+    let mut k: usize = 2;
+    let mut q = turn[2];
+    let mut n: usize = 4;
+    while n < e {
+        let d = digit(n);
+        let from = (k >> d) & 1;
+        let t = step(w, turn, p, s, k, q, d, from, taken, part);
+        k = k ^ (1 << d);
+        q = q ^ turn[d + 1];
+        let u = three(w, turn, p, t, k, q, taken, part);
+        s = u;
+        k = k ^ 2;
+        q = q ^ turn[2];
+        n += 4;
     }
 }
 

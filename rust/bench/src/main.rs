@@ -1,4 +1,5 @@
-//! The proved call beside the independent column method, on the same blocks in the same rooms, turn by turn.
+//! The proved call beside two unproved ones, document 000's walk and one that takes eight entries at a step, on the same blocks in
+//! the same rooms, turn by turn.
 
 mod shapes;
 mod table;
@@ -15,14 +16,15 @@ fn head(words: &[&str]) -> Vec<String> {
 
 fn compared(name: &str, matrix: &Matrix) -> Vec<String> {
     let times = time::measure(&matrix.block());
-    let micros = |nanos: f64| format!("{:.2}", nanos / 1e3);
-    vec![name.to_string(), micros(times.proved), micros(times.columns), format!("{:.2}", times.ratio)]
+    let micros = times.nanos.map(|nanos| format!("{:.2}", nanos / 1e3));
+    let ratios = times.ratios.map(|ratio| format!("{ratio:.2}"));
+    [&[name.to_string()], &micros[..2], &ratios[..1], &micros[2..], &ratios[1..]].concat()
 }
 
 fn comparison() -> Table {
     let p1 = matrix::parse("0:5 . / 1:3 0:2 / 1:6 1:1 / . 0:2", None).expect("P1 is a matrix");
     Table(vec![
-        head(&["block", "proved µs", "columns µs", "ratio"]),
+        head(&["block", "proved µs", "walk µs", "ratio", "by eights µs", "ratio"]),
         compared("m 1024, A 12, reads of 1024", &tiled(1024, 12, 1024, Gaps::None)),
         compared("m 1024, A 12, reads of 40 with holes", &tiled(1024, 12, 40, Gaps::OneIn(4))),
         compared("m 1024, A 12, pairs of 120", &tiled(1024, 12, 120, Gaps::Pair)),
@@ -38,13 +40,13 @@ fn grown(name: String, matrix: &Matrix) -> Vec<String> {
     let times = time::measure(&matrix.block());
     let micros = |nanos: f64| format!("{:.2}", nanos / 1e3);
     let each = |nanos: f64| format!("{:.2}", nanos / times.size as f64);
-    let size = times.size.to_string();
-    vec![name, size, micros(times.proved), micros(times.columns), each(times.proved), each(times.columns)]
+    let [proved, walk, _] = times.nanos;
+    vec![name, times.size.to_string(), micros(proved), micros(walk), each(proved), each(walk)]
 }
 
 /// Each of m, n and A doubles while the other two stay.
 fn growth() -> Table {
-    let mut rows = vec![head(&["block", "size", "proved µs", "columns µs", "proved ns", "columns ns"])];
+    let mut rows = vec![head(&["block", "size", "proved µs", "walk µs", "proved ns", "walk ns"])];
     for m in [128, 256, 512, 1024] {
         rows.push(grown(format!("m {m}, A 8"), &tiled(m, 8, 40, Gaps::None)));
     }

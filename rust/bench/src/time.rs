@@ -1,4 +1,4 @@
-//! Times of both calls, measured turn by turn.
+//! Times of the calls, measured turn by turn.
 
 use std::hint::black_box;
 use std::time::Instant;
@@ -15,15 +15,17 @@ fn proved(block: &[u8], work: &mut [u32], out: &mut [u8]) -> (u32, u32) {
     (numbers.number, numbers.second)
 }
 
-/// Nanoseconds of each call, the proved one's time by the other's, and m × T entries and the bytes of the block together.
+/// The proved call, document 000's walk, and the walk that takes eight entries at a step.
+const CALLS: [Call; 3] = [proved, solver::walk, solver::columns];
+
+/// Nanoseconds of each call, the proved one's time by each of the others', and m × T entries and the bytes of the block together.
 pub struct Times {
-    pub proved: f64,
-    pub columns: f64,
-    pub ratio: f64,
+    pub nanos: [f64; 3],
+    pub ratios: [f64; 2],
     pub size: usize,
 }
 
-/// A block with the rooms that it needs, lent to both calls.
+/// A block with the rooms that it needs, lent to all calls.
 struct Bench<'a> {
     block: &'a [u8],
     work: Vec<u32>,
@@ -44,13 +46,17 @@ impl Bench<'_> {
         start.elapsed().as_nanos() as f64 / times as f64
     }
 
-    /// Both must give the same in everything before either is timed.
-    fn agree(&mut self) {
-        let given = (self.run(proved), self.work.clone(), self.out.clone());
+    /// What a call gives, with all that it leaves in the rooms.
+    fn given(&mut self, call: Call) -> ((u32, u32), Vec<u32>, Vec<u8>) {
         self.work.fill(7);
         self.out.fill(7);
-        let wanted = (self.run(solver::columns), self.work.clone(), self.out.clone());
-        assert!(given == wanted && given.0.0 == 0, "both calls accept the block and agree");
+        (self.run(call), self.work.clone(), self.out.clone())
+    }
+
+    /// All must give the same in everything before any is timed.
+    fn agree(&mut self) {
+        let [first, rest @ ..] = CALLS.map(|call| self.given(call));
+        assert!(first.0.0 == 0 && rest.iter().all(|other| *other == first), "all calls accept the block and agree");
     }
 }
 
@@ -60,19 +66,17 @@ fn median(values: impl Iterator<Item = f64>) -> f64 {
     values[values.len() / 2]
 }
 
-/// Times both calls on a block, in the same rooms. Each round times both, so that its ratio outlasts a change of the clock.
+/// Times the calls on a block, in the same rooms. Each round times all, so that its ratios outlast a change of the clock.
 pub fn measure(block: &[u8]) -> Times {
     let (entries, length) = solver::rooms(block).expect("a block that passes checks 1 to 9");
     let mut bench = Bench { block, work: vec![0; entries], out: vec![0; length] };
     bench.agree();
-    let once = bench.timed(proved, 3).max(bench.timed(solver::columns, 3));
+    let once = CALLS.iter().map(|&call| bench.timed(call, 3)).fold(0.0, f64::max);
     let times = 1 + (ROUND_NS / once) as usize;
-    let rounds: Vec<(f64, f64)> =
-        (0..ROUNDS).map(|_| (bench.timed(proved, times), bench.timed(solver::columns, times))).collect();
+    let rounds: Vec<[f64; 3]> = (0..ROUNDS).map(|_| CALLS.map(|call| bench.timed(call, times))).collect();
     Times {
-        proved: median(rounds.iter().map(|round| round.0)),
-        columns: median(rounds.iter().map(|round| round.1)),
-        ratio: median(rounds.iter().map(|round| round.0 / round.1)),
+        nanos: [0, 1, 2].map(|i| median(rounds.iter().map(|round| round[i]))),
+        ratios: [1, 2].map(|i| median(rounds.iter().map(|round| round[0] / round[i]))),
         size: entries + block.len(),
     }
 }

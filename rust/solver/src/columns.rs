@@ -13,10 +13,20 @@ use pile::Pile;
 
 /// Phases a block by columns, in time that grows with the bytes of the block and the entries of the table.
 pub fn columns(bytes: &[u8], work: &mut [u32], out: &mut [u8]) -> Numbers {
+    phased::<true>(bytes, work, out)
+}
+
+/// The same by document 000's walk as it stands: each step leads to one entry.
+pub fn walk(bytes: &[u8], work: &mut [u32], out: &mut [u8]) -> Numbers {
+    phased::<false>(bytes, work, out)
+}
+
+/// By eight entries at a step or by one.
+fn phased<const EIGHT: bool>(bytes: &[u8], work: &mut [u32], out: &mut [u8]) -> Numbers {
     match Placed::accepted(bytes, work.len(), out.len()) {
         Ok(Placed { block, width }) => {
             let piles = pile::piles(&block);
-            table(&block, &piles, width, work);
+            table::<EIGHT>(&block, &piles, width, work);
             let (sides, haplotypes) = answer::parts(&block, out);
             let cost = back::way_back(&block, &piles, width, work, sides);
             let flips = letters::write(&block, sides, haplotypes);
@@ -28,13 +38,13 @@ pub fn columns(bytes: &[u8], work: &mut [u32], out: &mut [u8]) -> Numbers {
 }
 
 /// Every column's entries, from the first column on.
-fn table(block: &Block, piles: &[Pile], width: usize, work: &mut [u32]) {
+fn table<const EIGHT: bool>(block: &Block, piles: &[Pile], width: usize, work: &mut [u32]) {
     let mut room = vec![0; width];
     let mut before: &[u32] = &[0];
     for (column, (part, pile)) in work.chunks_exact_mut(width).zip(piles).enumerate() {
         let carried = carry::least(before, entries(pile.joined()), &mut room);
         let (used, rest) = part.split_at_mut(entries(pile.reads().len()));
-        walk::fill(block, pile, column, carried, used);
+        walk::fill::<EIGHT>(block, pile, column, carried, used);
         rest.fill(0);
         before = used;
     }

@@ -1,7 +1,7 @@
 //! A solver of fragment blocks that shares nothing with the proved library, written from document 01.
 //!
 //! [`exhaustive`] tries every division of the reads and is for small blocks. [`columns`] is the column
-//! method, written for speed. Both take the rooms that the proved call takes and leave in them what
+//! method, written for speed, and [`walk`] the same with one entry at each step. All take the rooms that the proved call takes and leave in them what
 //! document 01 says, entry by entry and byte by byte. [`judge`] judges a builder's answer by either, as
 //! document 02 says.
 
@@ -15,7 +15,7 @@ mod stated;
 
 pub use block::{Block, Read};
 pub use checks::rooms;
-pub use columns::columns;
+pub use columns::{columns, walk};
 pub use exhaustive::exhaustive;
 pub use judge::{Phase, judge};
 pub use stated::Stated;

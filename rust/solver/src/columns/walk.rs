@@ -50,11 +50,11 @@ fn steps(block: &Block, pile: &Pile, column: usize) -> (Steps, Sums) {
 }
 
 /// One column's entries: the charge of each division and what it takes over from the column before.
-pub fn fill(block: &Block, pile: &Pile, column: usize, carried: &[u32], part: &mut [u32]) {
+pub fn fill<const EIGHT: bool>(block: &Block, pile: &Pile, column: usize, carried: &[u32], part: &mut [u32]) {
     let (steps, sums) = steps(block, pile, column);
     // SAFETY: `part` has an entry for each division of the pile, `carried` one for each division of its shared reads
     unsafe {
-        if part.len() < 8 {
+        if !EIGHT || part.len() < 8 {
             walk(&steps, sums, carried, part);
         } else {
             walk_by_eights(&steps, sums, carried, part);

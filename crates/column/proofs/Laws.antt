@@ -16,13 +16,13 @@ use native.Mathlib.Omega.{arith}
 use Rattle.meaning.specs.Numbers.{bigEndian, minTo, sumTo, run}
 use Rattle.meaning.specs.Block.{cellAt}
 use Rattle.meaning.specs.Active.{used}
-use Rattle.meaning.specs.Charge.{against}
+use Rattle.meaning.specs.Charge.{Letter, against}
 use Rattle.meaning.specs.Refusals.{badCell}
 use Rattle.meaning.specs.Rule.{leastAt}
 use Rattle.meaning.proofs.Totals.{sum-zero}
 use Rattle.meaning.proofs.Lists.{length-run, getD-run}
 use Rattle.meaning.proofs.Refusals.{or-false-left}
-use Rattle.column.specs.Sums.{arrayOf, pairOf, weightOf, sumsWith, sideOf}
+use Rattle.column.specs.Sums.{arrayOf, pairAt, pairOf, weightOf, sumsWith, sideOf}
 use Rattle.column.specs.Pass.{entryAt, passed}
 
 -- a side by its number
@@ -42,6 +42,11 @@ one-shl n h = shl-exact {a = 1} 1 n 64 (omega arith) (omega arith) ∙ one-mul (
 -- the weight where the letter is 1, else 0
 pub times-digit : (x l : ℕ) → x * (l % 2) ≤ x
 times-digit x l = let h : l % 2 ≤ 1 = omega arith in omega (arith, mul-le-mul-left x h)
+
+-- neither part of a pair is above its weight
+pub pair-light : (x a : ℕ) → x ≤ 255 → (l : Letter) → pairAt (x * (a % 2) ∷ (x - x * (a % 2)) ∷ []) l ≤ 255
+pair-light x a h false = omega (arith, times-digit x a)
+pair-light x a h true = omega arith
 
 -- the pair of a cell without a branch
 pub pair-is : (cells : List ℕ) (i a b : ℕ) → badCell (cellAt 2 cells i) ≡ false → a ≡ getD cells (2 * i) 0 → b ≡ getD cells (2 * i + 1) 0

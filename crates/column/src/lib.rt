@@ -8,7 +8,7 @@ ghost use lib.Bits.{bitXor};
 ghost use lib.Count.{trailingZeros};
 ghost use Rattle.meaning.specs.Block.{cellAt};
 ghost use Rattle.meaning.specs.Active.{used};
-ghost use Rattle.meaning.specs.Charge.{charge};
+ghost use Rattle.meaning.specs.Charge.{Letter, charge};
 ghost use Rattle.meaning.specs.Refusals.{badCell};
 ghost use Rattle.meaning.specs.Rule.{leastAt};
 ghost use Rattle.column.specs.Sums.{sumsOf, arrayOf, Small, LightPairs, pairOf, pairAt, sumsWith, sideOf, movedSums, Movable};
@@ -35,10 +35,11 @@ fn wide(b: u8) -> u32
     b as u32
 }
 
-// What cell i costs where letter 0 is written, and where letter 1 is.
+// What cell i costs where letter 0 is written, and where letter 1 is: neither above 255.
 pub fn weights(cells: &[u8], i: usize) -> [u32; 2]
     requires { ⌜ (2 * i + 1 < length (now cells)) × (badCell (cellAt 2 (now cells) i) ≡ false) ⌝ }
     ensures { λ r. ⌜ r ≡ pairOf (cellAt 2 (now (cells .entry)) i) ⌝ }
+    ensures { λ r. ⌜ ((l : Letter) → pairAt r l ≤ 255) ⌝ }
 {
     let letter = wide(cells[2 * i]);
     let x = wide(cells[2 * i + 1]);

@@ -18,7 +18,7 @@ module _ (test : ℕ → Bool) where
   unfolding sumTo
   count-none = refl
 
-  count-more : (i : ℕ) → sharedTo test (i + 1) ≡ sharedTo test i + bit (test i)
+  pub count-more : (i : ℕ) → sharedTo test (i + 1) ≡ sharedTo test i + bit (test i)
   unfolding sumTo
   count-more i = rw add-one refl
 

@@ -69,13 +69,6 @@ module _ (f : ℕ → Bool) where
           ∙ sym (xor-zero-r (indexAt (keep f reads) d))
       go true t = rw (shared-to reads i (omega arith), shared-count reads, split t) (index-at-turned r xs ys d e h (subst Distinct (split t) u))
 
-  pub turn-put : (reads : List ℕ) → Distinct (keep f reads) → (i : ℕ) → i < length reads → (d : Division)
-      → indexAt (keep f reads) (put (getD reads i 0) (not (d (getD reads i 0))) d) ≡ bitXor (indexAt (keep f reads) d) (turnAt (shares reads) (length reads) i)
-  turn-put reads u i l d = turn-step reads u i l d (put r (not (d r)) d) record { same = λ q n. ap (λ (b : Bool). cond b (not (d r)) (d q)) (ne-eqb q r n); turned = put-same r (not (d r)) d }
-    where
-      r : ℕ
-      r = getD reads i 0
-
 -- the sides that entry k gives the first i reads, every other on side 0
 front : List ℕ → ℕ → ℕ → Division
 front reads k i q = cond (has q (take i reads)) (pattern reads k q) false
@@ -147,38 +140,3 @@ fold-lt turn k b (suc i) h = go (sideAt k i) (fold-lt turn k b i (λ q l. h q (o
     go : (s : Bool) → foldTo turn k i < 2 ^ b → cond s (bitXor (foldTo turn k i) (getD turn i 0)) (foldTo turn k i) < 2 ^ b
     go true l = xor-lt b (foldTo turn k i) (getD turn i 0) l (h i (omega arith))
     go false l = l
-
--- the masks go by the first p reads only
-turn-ext : (f g : ℕ → Bool) (p i : ℕ) → i < p → ((q : ℕ) → q < p → f q ≡ g q) → turnAt f p i ≡ turnAt g p i
-unfolding turnAt
-turn-ext f g p i l h =
-    ap₂ (λ (b : Bool) (n : ℕ). cond b n 0) (h i l)
-    (ap₂ maskOf (sum-ext i {f = λ q. bit (f q)} {g = λ q. bit (g q)} (λ q k. ap bit (h q (omega arith)))) (sum-ext p {f = λ q. bit (f q)} {g = λ q. bit (g q)} (λ q k. ap bit (h q k))))
-
--- the same for a list that goes on after its first p reads, as the code has it
-module _ (first list : List ℕ) (j p : ℕ) (l : p ≤ length list) where
-  abbrev earlier : ℕ → Bool
-  earlier r = ltb (getD first r 0) j
-
-  same-read : (q : ℕ) → q < p → startsBefore first list j q ≡ earlier (getD (take p list) q 0)
-  same-read q h = ap earlier (sym (getD-take p list q 0 h))
-
-  pub turn-list : (i : ℕ) → i < p → turnAt (startsBefore first list j) p i ≡ turnAt (λ q. ltb (getD first (getD (take p list) q 0) 0) j) (length (take p list)) i
-  turn-list i h =
-      turn-ext (startsBefore first list j) (λ q. earlier (getD (take p list) q 0)) p i h same-read
-      ∙ ap (λ (n : ℕ). turnAt (λ q. earlier (getD (take p list) q 0)) n i) (sym (length-take-le p list l))
-
-  pub shared-list : sharedTo (startsBefore first list j) p ≡ length (keep (λ r. ltb (getD first r 0) j) (take p list))
-  shared-list =
-      sum-ext p {f = λ q. bit (startsBefore first list j q)} {g = λ q. bit (earlier (getD (take p list) q 0))} (λ q h. ap bit (same-read q h))
-      ∙ ap (sharedTo (λ q. earlier (getD (take p list) q 0))) (sym (length-take-le p list l))
-      ∙ shared-count earlier (take p list)
-
-  pub fold-list : Distinct (take p list) → (turn : List ℕ) → ((i : ℕ) → i < p → getD turn i 0 ≡ turnAt (startsBefore first list j) p i)
-      → (k : ℕ) → foldTo turn k p ≡ indexAt (keep (λ r. ltb (getD first r 0) j) (take p list)) (pattern (take p list) k)
-  fold-list u turn h k =
-      ap (foldTo turn k) (sym n)
-      ∙ fold-is (take p list) u earlier turn (λ i m. let z : i < p = omega (arith, n) in h i z ∙ turn-list i z) k
-    where
-      n : length (take p list) ≡ p
-      n = length-take-le p list l

@@ -27,6 +27,10 @@ startsBefore first list j i = ltb (getD first (getD list i 0) 0) j
 abbrev pub sharedTo : (ℕ → Bool) → ℕ → ℕ
 sharedTo shares i = sumTo i (λ q. bit (shares q))
 
+-- the digit of a shared read with so many of them before it: none for the first, whose side all others are told from
+abbrev pub digitOf : ℕ → ℕ
+digitOf seen = cond (eqb seen 0) 0 (2 ^ (seen - 1))
+
 -- the mask of a shared read of s, so many of them before it: all digits if it is the first (the others are told from it), its own digit else
 abbrev pub maskOf : ℕ → ℕ → ℕ
 maskOf seen s = cond (eqb seen 0) (used s - 1) (2 ^ (seen - 1))

@@ -1,9 +1,11 @@
-// An index folded onto the shared reads: the mask by which each read turns it.
+// An index folded onto the shared reads: what the masks are made of by which each read turns it.
 ghost use mathlib.Core.Path.{_≡_};
-ghost use Prim.Native.Nat.{ℕ, _^_, _≤_, _<_};
+ghost use mathlib.Core.Bool.{cond};
+ghost use Prim.Native.Nat.{_*_, _^_, _≤_, _<_};
 ghost use lib.ListN.{length, getD};
-ghost use Rattle.meaning.specs.Active.{used};
-ghost use Rattle.fold.specs.Turn.{startsBefore, sharedTo, maskOf, turnAt};
+ghost use lib.Dec.{ltb, eqb};
+ghost use Rattle.meaning.specs.Numbers.{bit};
+ghost use Rattle.fold.specs.Turn.{digitOf};
 
 // A read number or a column, to index with.
 pub fn wide(x: u16) -> usize
@@ -21,24 +23,6 @@ pub fn of_read(noted: &[u16], list: &[u16], i: usize) -> usize
     wide(noted[r])
 }
 
-// How many of the first p reads of the list start before column j.
-pub fn shared(list: &[u16], p: usize, first: &[u16], j: usize) -> usize
-    requires { ⌜ (p ≤ 12) × (p ≤ length (now list)) ⌝ }
-    requires { ⌜ ((i : ℕ) → i < p → getD (now list) i 0 < length (now first)) ⌝ }
-    ensures { λ r. ⌜ r ≡ sharedTo (startsBefore (now (first .entry)) (now (list .entry)) j) p ⌝ }
-{
-    let mut count: usize = 0;
-    let mut i: usize = 0;
-    while i < p {
-        let c = of_read(first, list, i);
-        if c < j {
-            count += 1;
-        }
-        i += 1;
-    }
-    count
-}
-
 // 2 to the power i.
 pub fn power(i: usize) -> usize
     requires { ⌜ i < 12 ⌝ }
@@ -47,35 +31,27 @@ pub fn power(i: usize) -> usize
     1 << i
 }
 
-// The mask of a shared read, of s shared reads, that has so many shared ones before it.
-fn mask(seen: usize, s: usize) -> usize
-    requires { ⌜ (seen < s) × (s ≤ 12) ⌝ }
-    ensures { λ r. ⌜ r ≡ maskOf seen s ⌝ }
+// 1 if a read that starts at column f and is active at column j is shared with the column before it.
+pub fn begun(f: usize, j: usize) -> usize
+    ensures { λ r. ⌜ r ≡ bit (ltb f j) ⌝ }
 {
-    if seen == 0 {
-        return power(s - 1) - 1;
-    }
-    power(seen - 1)
+    if f < j { 1 } else { 0 }
 }
 
-// The masks of the first p reads of the list at column j.
-pub fn turns(list: &[u16], p: usize, first: &[u16], j: usize) -> [usize; 12]
-    requires { ⌜ (p ≤ 12) × (p ≤ length (now list)) ⌝ }
-    requires { ⌜ ((i : ℕ) → i < p → getD (now list) i 0 < length (now first)) ⌝ }
-    ensures { λ r. ⌜ ((i : ℕ) → i < p → getD r i 0 ≡ turnAt (startsBefore (now (first .entry)) (now (list .entry)) j) p i) ⌝ }
-    ensures { λ r. ⌜ ((i : ℕ) → getD r i 0 < used (sharedTo (startsBefore (now (first .entry)) (now (list .entry)) j) p)) ⌝ }
+// The digit of a read with so many shared ones before it, if it is shared (b is 1); the first has none.
+pub fn own(seen: usize, b: usize) -> usize
+    requires { ⌜ (seen < 12) × (b ≤ 1) ⌝ }
+    ensures { λ r. ⌜ r ≡ digitOf seen * b ⌝ }
 {
-    let s = shared(list, p, first, j);
-    let mut turn = [0usize; 12];
-    let mut seen: usize = 0;
-    let mut i: usize = 0;
-    while i < p {
-        let c = of_read(first, list, i);
-        if c < j {
-            turn[i] = mask(seen, s);
-            seen += 1;
-        }
-        i += 1;
+    if seen == 0 {
+        return 0;
     }
-    turn
+    power(seen - 1) * b
+}
+
+// The first shared read's place, where none has been seen before place i.
+pub fn lead(seen: usize, head: usize, i: usize) -> usize
+    ensures { λ r. ⌜ r ≡ cond (eqb seen 0) i head ⌝ }
+{
+    if seen == 0 { i } else { head }
 }

@@ -77,15 +77,6 @@ module _ (first ends : List ℕ) where
   unfolding heightAt
   height-le n j = let h = sum-bound n 1 {f = λ r. bit (spans first ends r j)} (λ r l. bit-le (spans first ends r j)) in omega arith
 
-  pub height-grows : (r n j : ℕ) → r ≤ n → heightAt first ends r j ≤ heightAt first ends n j
-  unfolding heightAt sumTo
-  height-grows r zero j h = let e : r ≡ 0 = omega arith in rw e (omega arith)
-  height-grows r (suc n) j h = go (eqb r (suc n)) refl (height-grows r n j)
-    where
-      go : (b : Bool) → eqb r (suc n) ≡ b → (r ≤ n → heightAt first ends r j ≤ heightAt first ends n j) → heightAt first ends r j ≤ heightAt first ends (suc n) j
-      go true e ih = rw (eqb-true r (suc n) e) (omega arith)
-      go false e ih = let ne : r ≢ suc n = eqb-false r (suc n) e in let k = ih (omega arith) in omega arith
-
 -- the search for the first column with more than 12 has come to column j
 pub record Searched (count : List ℕ) (m most j : ℕ) : Type 0 where
   pub inside : j ≤ m

@@ -21,19 +21,23 @@ spans first ends r j = within (getD first r 0) (getD ends r 0) j
 unfoldable pub heightAt : List ℕ → List ℕ → ℕ → ℕ → ℕ
 heightAt first ends n j = sumTo n (λ r. bit (spans first ends r j))
 
--- read r put into a list, behind all that end no earlier
+-- read r put into a list, behind all that end later
 abbrev pub inserted : List ℕ → ℕ → List ℕ → List ℕ
 inserted ends r [] = r ∷ []
-inserted ends r (x ∷ xs) = cond (leb (getD ends r 0) (getD ends x 0)) (x ∷ inserted ends r xs) (r ∷ x ∷ xs)
+inserted ends r (x ∷ xs) = cond (ltb (getD ends r 0) (getD ends x 0)) (x ∷ inserted ends r xs) (r ∷ x ∷ xs)
 
 -- and only where column j is in its span
 abbrev pub joined : List ℕ → List ℕ → ℕ → ℕ → List ℕ → List ℕ
 joined first ends r j l = cond (spans first ends r j) (inserted ends r l) l
 
--- the reads before n that are active at column j, latest end first, equal ends by number
-unfoldable pub listAt : List ℕ → List ℕ → ℕ → ℕ → List ℕ
-listAt first ends zero j = []
-listAt first ends (suc n) j = joined first ends n j (listAt first ends n j)
+-- of the k reads from r on those that are active at column j, latest end first, equal ends by number: the last joins first
+unfoldable pub listFrom : List ℕ → List ℕ → ℕ → ℕ → ℕ → List ℕ
+listFrom first ends r zero j = []
+listFrom first ends r (suc k) j = joined first ends r j (listFrom first ends (suc r) k j)
+
+-- and of the reads before n
+abbrev pub listAt : List ℕ → List ℕ → ℕ → ℕ → List ℕ
+listAt first ends n j = listFrom first ends 0 n j
 
 -- the spans are those of the matrix
 pub record Spanned (M : Matrix) (first after : List ℕ) : Type 0 where

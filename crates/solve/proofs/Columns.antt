@@ -16,13 +16,14 @@ use Rattle.meaning.specs.Rule.{leastAt, sharedReads, columnFrom, columnOf}
 use Rattle.meaning.specs.Call.{laid}
 use Rattle.meaning.proofs.Lists.{length-run}
 use Rattle.meaning.proofs.Closing.{active-split}
+use Rattle.fold.proofs.Masks.{turn-lt}
 use Rattle.fold.specs.Turn.{startsBefore, sharedTo, turnAt}
 use Rattle.column.specs.Sums.{pairAt, pairOf, LightPairs}
 use Rattle.column.specs.Pass.{Room, passed}
 use Rattle.column.proofs.Join.{Paired}
 use Rattle.cells.specs.Laid.{Laid}
 use Rattle.solve.specs.Ready.{Ready, TakenOver, TakenFits, sharedBefore, passedOver}
-use Rattle.solve.proofs.Pass.{shared-is, shared-before, least-parts, classes-fill, pass-over}
+use Rattle.solve.proofs.Pass.{shared-before, least-parts, classes-fill, pass-over}
 use Rattle.solve.proofs.Sizes.{columns-are, reads-are, ready-placed, column-sizes, list-part, listed-read, listed-active}
 
 module _ (b start first after counts lists : List ℕ) (ready : Ready b start first after counts lists) where
@@ -69,27 +70,17 @@ module _ (b start first after counts lists : List ℕ) (ready : Ready b start fi
           each-active = list-active;
         }
 
-    -- and to fold onto the shared reads
-    pub fold-fits : ((p ≤ 12) × (p ≤ length (listPart j))) × ((i : ℕ) → i < p → getD (listPart j) i 0 < length first)
-    fold-fits = (list-fits, λ i k. le-trans (list-read i k) (ready .firsts-room))
-
   pub firsts-are : (r : ℕ) → r < count (matrixOf b) → getD first r 0 ≡ read (matrixOf b) r .first
   firsts-are r l = ready .noted .firsts r (subst (λ (n : ℕ). r < n) (reads-are b) l)
 
   -- how many reads two neighbouring columns share
-  pub shared-length : (i j : ℕ) → j ≡ suc i → j < columnsField b → (p s : ℕ) → p ≡ getD counts j 0
-      → s ≡ sharedTo (startsBefore first (listPart j) j) p → (s ≡ length (sharedReads (matrixOf b) i)) × (s ≤ 12)
-  shared-length i j e l p s q h =
-      let l' : suc i < columnsField b = subst (λ (x : ℕ). x < columnsField b) e l in
-      let in-columns : suc i < matrixOf b .columns = subst (λ (x : ℕ). suc i < x) (sym (columns-are b)) l' in
-      let p' : p ≡ length (activeReads (matrixOf b) (suc i)) = q ∙ ap (λ (x : ℕ). getD counts x 0) e ∙ ready .piled .counted (suc i) in-columns in
-      let m : s ≡ length (sharedReads (matrixOf b) i) =
-      h ∙ ap₂ (λ (x y : ℕ). sharedTo (startsBefore first (listPart x) x) y) e p' ∙ shared-is (matrixOf b) i first (listPart (suc i)) (part-listed (suc i) l') firsts-are in
-      let inside : i < matrixOf b .columns = omega arith in
+  pub shared-few : (i : ℕ) → i < columnsField b → length (sharedReads (matrixOf b) i) ≤ 12
+  shared-few i l =
+      let inside : i < matrixOf b .columns = subst (λ (x : ℕ). i < x) (sym (columns-are b)) l in
       let few : length (activeReads (matrixOf b) i) ≤ 12 = ready .piled .few i inside in
       let split : length (activeReads (matrixOf b) i) ≡ length (sharedReads (matrixOf b) i) + length (closingAt (matrixOf b) i) =
       ap length (active-split (matrixOf b) i inside) ∙ length-append (sharedReads (matrixOf b) i) (closingAt (matrixOf b) i) in
-      (m, omega arith)
+      omega arith
 
   -- the entries of column i that stand for a division, as a part of the work room
   module _ (i t : ℕ) (l : i + 1 < columnsField b) (e : t ≡ entries (matrixOf b)) (work : List ℕ) (room : columnsField b * t ≤ length work)
@@ -166,24 +157,28 @@ module _ (b start first after counts lists : List ℕ) (ready : Ready b start fi
     shared-count-is =
         ap (sharedTo (startsBefore first (listPart j) j)) (height-is j l p q) ∙ shared-before (matrixOf b) first (listPart j) firsts-are j part-places
 
-    pub fill-room : (turn taken : List ℕ) → ((i : ℕ) → getD turn i 0 < used (sharedTo (startsBefore first (listPart j) j) p)) → TakenFits (matrixOf b) j taken → Room turn p taken
-    fill-room turn taken masks fits =
-        record {
-          digits = length (sharedBefore (matrixOf b) j) - 1;
-          inside = fits .room;
-          turns = λ i k. subst (λ (x : ℕ). getD turn i 0 < used x) shared-count-is (masks i);
-          small = fits .small;
-        }
+    pub shared-are : (s : ℕ) → s ≡ sharedTo (startsBefore first (listPart j) j) p → s ≡ length (sharedBefore (matrixOf b) j)
+    shared-are s e = e ∙ shared-count-is
 
-    pub fill-fits : (t : ℕ) → t ≡ entries (matrixOf b) → (w : List (List ℕ)) (turn taken work : List ℕ) → columnsField b * t ≤ length work
-        → LightPairs w p 255 → ((i : ℕ) → getD turn i 0 < used (sharedTo (startsBefore first (listPart j) j) p)) → TakenFits (matrixOf b) j taken
-        → ((p ≤ 12) × LightPairs w p 65535) × (Room turn p taken × (used p ≤ length (take (j * t + t - j * t) (drop (j * t) work))))
-    fill-fits t e w turn taken work room light masks fits =
-        let z = column-sizes b start first after counts lists ready j t l e in
-        let long : length (take (j * t + t - j * t) (drop (j * t) work)) ≡ t = length-take-le (j * t + t - j * t) (drop (j * t) work) (omega (arith, length-drop (j * t) work)) ∙ omega arith in (
-          (list-fits j l p q .0, λ i k x. le-trans (light i k x) (omega arith)),
-          (fill-room turn taken masks fits, subst (λ (x : ℕ). used p ≤ x) (sym long) (subst (λ (x : ℕ). used x ≤ t) (sym q) (z .fits))),
-        )
+    module _ (turn : List ℕ) (turned : (i : ℕ) → i < p → getD turn i 0 ≡ turnAt (startsBefore first (listPart j) j) p i) where
+      fill-room : (taken : List ℕ) → TakenFits (matrixOf b) j taken → Room turn p taken
+      fill-room taken fits =
+          record {
+            digits = length (sharedBefore (matrixOf b) j) - 1;
+            inside = fits .room;
+            turns = λ i k. subst (λ (x : ℕ). getD turn i 0 < used x) shared-count-is (subst (λ (x : ℕ). x < used (sharedTo (startsBefore first (listPart j) j) p)) (sym (turned i k)) (turn-lt (startsBefore first (listPart j) j) i p k));
+            small = fits .small;
+          }
+
+      pub fill-fits : (t : ℕ) → t ≡ entries (matrixOf b) → (w : List (List ℕ)) (taken work : List ℕ) → columnsField b * t ≤ length work
+          → LightPairs w p 255 → TakenFits (matrixOf b) j taken
+          → ((p ≤ 12) × LightPairs w p 65535) × (Room turn p taken × (used p ≤ length (take (j * t + t - j * t) (drop (j * t) work))))
+      fill-fits t e w taken work room light fits =
+          let z = column-sizes b start first after counts lists ready j t l e in
+          let long : length (take (j * t + t - j * t) (drop (j * t) work)) ≡ t = length-take-le (j * t + t - j * t) (drop (j * t) work) (omega (arith, length-drop (j * t) work)) ∙ omega arith in (
+            (list-fits j l p q .0, λ i k x. le-trans (light i k x) (omega arith)),
+            (fill-room taken fits, subst (λ (x : ℕ). used p ≤ x) (sym long) (subst (λ (x : ℕ). used x ≤ t) (sym q) (z .fits))),
+          )
 
     pub pass-laid : (t : ℕ) → t ≡ entries (matrixOf b) → (w : List (List ℕ)) (turn taken work last : List ℕ) → columnsField b * t ≤ length work
         → ((i : ℕ) → i < p → getD w i [] ≡ pairOf (at (read (matrixOf b) (getD (listPart j) i 0)) j))

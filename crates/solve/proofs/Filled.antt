@@ -1,18 +1,18 @@
 -- The table's loop: column after column by the rule is the table, and no entry is too large.
-use Prim.Native.Nat.{ℕ, suc, _+_, _-_, _*_, _/_, _^_, _≤_, _<_, zero-le}
-use mathlib.Core.Path.{_≡_, sym, ap, ap₂, _∙_, subst}
+use Prim.Native.Nat.{ℕ, zero, suc, _+_, _-_, _*_, _/_, _^_, _≤_, _<_, zero-le}
+use mathlib.Core.Logic.{_≢_}
+use mathlib.Core.Path.{_≡_, refl, sym, ap, ap₂, _∙_, subst}
 use mathlib.Core.Bool.{Bool, true, false, cond}
-use mathlib.Core.List.{List, [], _++_}
-use native.Mathlib.Nat.{le-trans, le-of-eq, add-zero, zero-add, mul-le-mul-right}
+use mathlib.Core.List.{List, _++_}
+use native.Mathlib.Nat.{le-trans, le-of-eq, add-zero, zero-add, mul-le-mul-right, not-suc-le-zero}
 use native.Mathlib.Numerals.{add-one}
 use native.Mathlib.Decide.{decLe}
 use native.Mathlib.Omega.{arith}
 use lib.ListN.{length, getD, drop, length-append, List·getD-eq-default}
-use lib.Seq.{drop-append-add, drop-drop}
-use lib.Pow.{pow-mono}
+use lib.Pow.{pow-mono, pow-pos}
 use lib.Dec.{ltb}
 use Rattle.meaning.specs.Block.{Matrix, versionField, columnsField, matrixOf}
-use Rattle.meaning.specs.Active.{activeCount, used, entries}
+use Rattle.meaning.specs.Active.{activeCount, mostActive, used, entries}
 use Rattle.meaning.specs.Closing.{activeReads, closingAt}
 use Rattle.meaning.specs.Charge.{charge}
 use Rattle.meaning.specs.Letters.{general}
@@ -25,8 +25,8 @@ use Rattle.meaning.proofs.Closing.{Placed, length-active, active-split}
 use Rattle.meaning.proofs.Rooms.{used-room, length-column, length-columns, column-at, columns-part, laid-join, laid-front}
 use Rattle.meaning.proofs.Rule.{rule-first, rule-next}
 use Rattle.meaning.proofs.Bounds.{Bytes, heaviest, block-light, entry-bound}
-use Rattle.solve.specs.Ready.{Ready, TakenOver, TakenFits, passedOver}
-use Rattle.solve.proofs.Pass.{over-next}
+use Rattle.solve.specs.Ready.{Ready, sharedBefore, TakenOver, TakenBefore, TakenFits, passedOver}
+use Rattle.solve.proofs.Pass.{over-first, over-next}
 use Rattle.solve.proofs.Sizes.{columns-are, ready-formed, ready-placed}
 
 module _ (M : Matrix) (placed : Placed M) (work : List ℕ) where
@@ -55,7 +55,7 @@ module _ (M : Matrix) (placed : Placed M) (work : List ℕ) where
       ∙ laid-join 0 xs (column charge M (suc i)) work (omega arith)
       ∙ laid-front (xs ++ column charge M (suc i)) work
 
-  pub table-column : (i : ℕ) (room : List ℕ) → room ≡ over (columnsTo charge M (suc i)) work → columnOf M room i ≡ column charge M i
+  table-column : (i : ℕ) (room : List ℕ) → room ≡ over (columnsTo charge M (suc i)) work → columnOf M room i ≡ column charge M i
   table-column i room e = ap (λ (r : List ℕ). columnOf M r i) e ∙ column-there i
 
 -- what a column of small entries hands on is small
@@ -88,7 +88,7 @@ module _ (b start first after counts lists : List ℕ) (ready : Ready b start fi
       let g : suc j * (12 * heaviest b) ≡ suc j * (12 * 255) = ap (λ (x : ℕ). suc j * (12 * x)) e in
       omega arith
 
-  pub column-small : (j : ℕ) → j < columnsField b → (k : ℕ) → getD (column charge (matrixOf b) j) k 0 ≤ 3133440
+  column-small : (j : ℕ) → j < columnsField b → (k : ℕ) → getD (column charge (matrixOf b) j) k 0 ≤ 3133440
   column-small j l k = go (decLe (suc k) (entries (matrixOf b)))
     where
       inside : j < matrixOf b .columns
@@ -102,6 +102,16 @@ module _ (b start first after counts lists : List ℕ) (ready : Ready b start fi
       go (yes h) = subst (λ (x : ℕ). x ≤ 3133440) (sym (column-at charge (matrixOf b) j k h)) (pick (ltb k (used (length (activeReads (matrixOf b) j)))))
       go (no h) = subst (λ (x : ℕ). x ≤ 3133440) (sym (List·getD-eq-default (column charge (matrixOf b) j) 0 (let n : length (column charge (matrixOf b) j) ≡ entries (matrixOf b) = length-column charge (matrixOf b) j in omega arith))) zero-le
 
+  -- and so is what the loop has written before column j
+  pub before-small : (j : ℕ) → j < columnsField b → (work room : List ℕ) → room ≡ over (columnsTo charge (matrixOf b) j) work
+      → 0 < j → (k : ℕ) → getD (columnOf (matrixOf b) room (j - 1)) k 0 ≤ 4000000000
+  before-small zero l work room e h k = absurd (not-suc-le-zero h)
+  before-small (suc i) l work room e h k =
+      let p : i ≡ suc i - 1 = omega arith in
+      let z : getD (column charge (matrixOf b) i) k 0 ≤ 4000000000 = le-trans (column-small i (omega arith) k) (omega arith) in
+      subst (λ (x : ℕ). getD (columnOf (matrixOf b) room x) k 0 ≤ 4000000000) p
+      (subst (λ (x : List ℕ). getD x k 0 ≤ 4000000000) (sym (table-column (matrixOf b) (ready-placed b start first after counts lists ready) work i room e)) z)
+
 -- the same in the code's own terms
 module _ (b start first after counts lists : List ℕ) (ready : Ready b start first after counts lists) where
   -- a column has no more shared reads than there is room for
@@ -112,56 +122,52 @@ module _ (b start first after counts lists : List ℕ) (ready : Ready b start fi
       ap length (active-split (matrixOf b) i k) ∙ length-append (sharedReads (matrixOf b) i) (closingAt (matrixOf b) i) in
       le-trans (pow-mono {j = length (activeReads (matrixOf b) i) - 1} (omega arith)) (used-room (matrixOf b) (ready-placed b start first after counts lists ready) i k)
 
-  pub next-fits : (i j t : ℕ) → j ≡ suc i → j < columnsField b → t ≡ entries (matrixOf b) → (work taken : List ℕ) → t ≤ length taken
-      → TakenOver (matrixOf b) i work taken → ((k : ℕ) → getD (columnOf (matrixOf b) work i) k 0 ≤ 4000000000) → TakenFits (matrixOf b) j taken
-  next-fits i j t e l f work taken room h small =
-      subst (λ (x : ℕ). TakenFits (matrixOf b) x taken) (sym e)
-      (taken-fits (matrixOf b) i work taken h (le-trans (shared-fits i (omega arith)) (le-trans (le-of-eq (sym f)) room)) small)
+  pub before-fits : (j t : ℕ) → j < columnsField b → t ≡ entries (matrixOf b) → (work taken : List ℕ) → t ≤ length taken
+      → TakenBefore (matrixOf b) j work taken → (0 < j → (k : ℕ) → getD (columnOf (matrixOf b) work (j - 1)) k 0 ≤ 4000000000) → TakenFits (matrixOf b) j taken
+  unfolding entries
+  before-fits zero t l f work taken room h small = first-fits (matrixOf b) taken (le-trans (le-trans (pow-pos (mostActive (matrixOf b) - 1)) (le-of-eq (sym f))) room) h
+  before-fits (suc i) t l f work taken room h small =
+      let e : suc i - 1 ≡ i = omega arith in
+      taken-fits (matrixOf b) i work taken h (le-trans (shared-fits i (omega arith)) (le-trans (le-of-eq (sym f)) room))
+      (subst (λ (x : ℕ). (k : ℕ) → getD (columnOf (matrixOf b) work x) k 0 ≤ 4000000000) e (small (omega arith)))
 
-pub next-over : (M : Matrix) (i j : ℕ) → j ≡ suc i → (work taken : List ℕ) → TakenOver M i work taken → passedOver M j taken ≡ ruleColumn charge M j (columnOf M work i)
-next-over M i j e work taken h =
-    subst (λ (x : ℕ). passedOver M x taken ≡ ruleColumn charge M x (columnOf M work i)) (sym e) (over-next M i work taken h)
+-- column j from the one before it
+pub before-over : (M : Matrix) (j : ℕ) (work taken : List ℕ) → TakenBefore M j work taken → passedOver M j taken ≡ ruleColumn charge M j (columnOf M work (j - 1))
+before-over M zero work taken h = over-first M taken (columnOf M work (0 - 1)) h
+before-over M (suc i) work taken h =
+    let e : suc i - 1 ≡ i = omega arith in
+    over-next M i work taken h ∙ ap (λ (x : ℕ). ruleColumn charge M (suc i) (columnOf M work x)) (sym e)
 
--- what is laid over again
-pub over-over : (xs ys w : List ℕ) → length ys ≤ length xs → length ys ≤ length w → over xs (over ys w) ≡ over xs w
-over-over xs ys w h k =
-    ap (λ (l : List ℕ). xs ++ l)
-    (ap (λ (n : ℕ). drop n (ys ++ drop (length ys) w)) (let e : length xs ≡ length ys + (length xs - length ys) = omega arith in e)
-    ∙ drop-append-add ys (drop (length ys) w) (length xs - length ys)
-    ∙ drop-drop (length xs - length ys) (length ys) w
-    ∙ ap (λ (n : ℕ). drop n w) (let e : length ys + (length xs - length ys) ≡ length xs = omega arith in e))
+-- what the code takes over, at column 0 and after it
+pub taken-none : (M : Matrix) (j : ℕ) (work taken : List ℕ) → j ≡ 0 → getD taken 0 0 ≡ 0 → TakenBefore M j work taken
+taken-none M j work taken e z = subst (λ (x : ℕ). TakenBefore M x work taken) (sym e) z
 
-module _ (M : Matrix) (placed : Placed M) (some : 0 < M .columns) (entry-room : List ℕ) (fits : M .columns * entries M ≤ length entry-room) where
-  one-fits : length (columnsTo charge M 1) ≤ length entry-room
-  one-fits =
-      let n : length (columnsTo charge M 1) ≡ 1 * entries M = length-columns charge M 1 in
-      let y : 1 * entries M ≤ M .columns * entries M = mul-le-mul-right (entries M) some in
-      omega arith
+pub taken-next : (M : Matrix) (j : ℕ) (work taken : List ℕ) → j ≢ 0 → TakenOver M (j - 1) work taken → TakenBefore M j work taken
+taken-next M zero work taken ne h = absurd (ne refl)
+taken-next M (suc i) work taken ne h = let e : suc i - 1 ≡ i = omega arith in subst (λ (x : ℕ). TakenOver M x work taken) e h
 
-  pub table-start : (room : List ℕ) → room ≡ laid 0 (ruleColumn charge M 0 []) entry-room → room ≡ over (columnsTo charge M 1) room
-  table-start room e =
-      let a : room ≡ over (columnsTo charge M 1) entry-room = e ∙ table-first M placed entry-room [] in
-      a ∙ sym (over-over (columnsTo charge M 1) (columnsTo charge M 1) entry-room (omega arith) one-fits) ∙ ap (over (columnsTo charge M 1)) (sym a)
+pub shared-next : (M : Matrix) (j : ℕ) → j ≢ 0 → length (sharedBefore M j) ≡ length (sharedReads M (j - 1))
+shared-next M zero ne = absurd (ne refl)
+shared-next M (suc i) ne = let e : i ≡ suc i - 1 = omega arith in ap (λ (x : ℕ). length (sharedReads M x)) e
 
-  pub table-end : (i : ℕ) → i < M .columns → M .columns ≤ i + 1 → (room last : List ℕ) → room ≡ laid 0 (ruleColumn charge M 0 []) entry-room
-      → last ≡ over (columnsTo charge M (suc i)) room → last ≡ over (table charge M) entry-room
-  unfolding table
-  table-end i l h room last e f =
-      let a : room ≡ over (columnsTo charge M 1) entry-room = e ∙ table-first M placed entry-room [] in
-      let n : length (columnsTo charge M 1) ≡ 1 * entries M = length-columns charge M 1 in
-      let m : length (columnsTo charge M (suc i)) ≡ suc i * entries M = length-columns charge M (suc i) in
-      let y : 1 * entries M ≤ suc i * entries M = mul-le-mul-right (entries M) (let z : 1 ≤ suc i = omega arith in z) in
-      let c : suc i ≡ M .columns = omega arith in
-      f
-      ∙ ap (over (columnsTo charge M (suc i))) a
-      ∙ over-over (columnsTo charge M (suc i)) (columnsTo charge M 1) entry-room (omega arith) one-fits
-      ∙ ap (λ (k : ℕ). over (columnsTo charge M k) entry-room) c
+-- the table's loop: none of its columns, one more, all
+pub table-start : (M : Matrix) (work : List ℕ) → work ≡ over (columnsTo charge M 0) work
+unfolding columnsTo
+table-start M work = refl
 
-pub table-turn : (M : Matrix) → Placed M → (i t : ℕ) → t ≡ entries M → i + 1 < M .columns → (work room new : List ℕ) → M .columns * t ≤ length work
-    → room ≡ over (columnsTo charge M (suc i)) work
-    → new ≡ laid ((i + 1) * t) (ruleColumn charge M (i + 1) (columnOf M room i)) room → new ≡ over (columnsTo charge M (suc (i + 1))) work
-table-turn M placed i t e l work room new fits r h =
+pub table-turn : (M : Matrix) → Placed M → (j t : ℕ) → t ≡ entries M → j < M .columns → (work room new : List ℕ) → M .columns * t ≤ length work
+    → room ≡ over (columnsTo charge M j) work
+    → new ≡ laid (j * t) (ruleColumn charge M j (columnOf M room (j - 1))) room → new ≡ over (columnsTo charge M (j + 1)) work
+table-turn M placed zero t e l work room new fits r h =
+    let z : 0 * t ≡ 0 = omega arith in
+    h ∙ ap₂ (λ (n : ℕ) (w : List ℕ). laid n (ruleColumn charge M 0 (columnOf M room (0 - 1))) w) z (r ∙ sym (table-start M work)) ∙ table-first M placed work (columnOf M room (0 - 1))
+table-turn M placed (suc i) t e l work room new fits r h =
+    let p : suc i - 1 ≡ i = omega arith in
     h
-    ∙ ap₂ (λ (x y : ℕ). laid (x * y) (ruleColumn charge M x (columnOf M room i)) room) (add-one i) e
-    ∙ table-next M placed work i (omega arith) (subst (λ (x : ℕ). M .columns * x ≤ length work) e fits) room r
-    ∙ ap (λ (x : ℕ). over (columnsTo charge M (suc x)) work) (sym (add-one i))
+    ∙ ap₂ (λ (x y : ℕ). laid (suc i * y) (ruleColumn charge M (suc i) (columnOf M room x)) room) p e
+    ∙ table-next M placed work i l (subst (λ (x : ℕ). M .columns * x ≤ length work) e fits) room r
+    ∙ ap (λ (x : ℕ). over (columnsTo charge M x) work) (sym (add-one (suc i)))
+
+pub table-end : (M : Matrix) (j : ℕ) (work last : List ℕ) → j ≡ M .columns → last ≡ over (columnsTo charge M j) work → last ≡ over (table charge M) work
+unfolding table
+table-end M j work last e h = h ∙ ap (λ (x : ℕ). over (columnsTo charge M x) work) e

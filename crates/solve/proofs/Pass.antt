@@ -99,7 +99,7 @@ module _ (M : Matrix) (i : ℕ) (first list : List ℕ)
       ∙ ap (λ (x : ℕ). ltb x (suc i)) (firsts r (active-lt M (suc i) r m))
       ∙ starts-active (read M r) i (active-is M (suc i) r m)
 
-  pub shared-is : sharedTo (startsBefore first list (suc i)) (length (activeReads M (suc i))) ≡ length (sharedReads M i)
+  shared-is : sharedTo (startsBefore first list (suc i)) (length (activeReads M (suc i))) ≡ length (sharedReads M i)
   unfolding sharedReads
   shared-is =
       sum-ext (length (activeReads M (suc i))) (λ q l. ap bit (starts-shared q l))

@@ -55,6 +55,11 @@ abbrev pub sharedBefore : Matrix → ℕ → List ℕ
 sharedBefore M zero = []
 sharedBefore M (suc i) = sharedReads M i
 
+-- what column j takes over: nothing at column 0
+abbrev pub TakenBefore : Matrix → ℕ → List ℕ → List ℕ → Type 0
+TakenBefore M zero work taken = getD taken 0 0 ≡ 0
+TakenBefore M (suc i) work taken = TakenOver M i work taken
+
 -- what is taken over for each index of the shared reads has its place, and is small enough to add a charge to
 pub record TakenFits (M : Matrix) (j : ℕ) (taken : List ℕ) : Type 0 where
   pub room : used (length (sharedBefore M j)) ≤ length taken

@@ -1,7 +1,6 @@
 // The solver: the table column by column, the way back, letters and flips, the answer block.
 ghost use mathlib.Core.Path.{_≡_};
 ghost use mathlib.Core.Bool.{true, false};
-ghost use mathlib.Core.List.{[]};
 ghost use Prim.Native.Nat.{ℕ, _+_, _-_, _*_, _≤_, _<_, min};
 ghost use lib.ListN.{length, getD, take, drop, replicate};
 ghost use Rattle.meaning.specs.Numbers.{bit};
@@ -15,9 +14,9 @@ ghost use Rattle.meaning.specs.Table.{column, table};
 ghost use Rattle.meaning.specs.Answer.{sidesOf, divisionOf, lettersOf, answer};
 ghost use Rattle.meaning.specs.Refusals.{blockRefusal};
 ghost use Rattle.meaning.specs.Call.{over, laid, call};
-ghost use Rattle.meaning.specs.Rule.{sharedReads, ruleColumn, columnOf, entryFor, leastEntry, wayBack};
+ghost use Rattle.meaning.specs.Rule.{ruleColumn, columnOf, entryFor, leastEntry, wayBack};
 ghost use Rattle.cells.specs.Laid.{Lettered};
-ghost use Rattle.solve.specs.Ready.{Ready, Piling, ThinColumns, TakenOver, TakenFits, passedOver};
+ghost use Rattle.solve.specs.Ready.{Ready, Piling, ThinColumns, sharedBefore, TakenBefore};
 ghost use Rattle.solve.specs.Outcomes.{ColumnsFound, resultOf};
 
 fn wide(x: u16) -> usize
@@ -26,54 +25,8 @@ fn wide(x: u16) -> usize
     x as usize
 }
 
-// How many of column i + 1's active reads are active at column i too.
-fn shared_at(
-    block: &[u8],
-    start: &[u32],
-    first: &[u16],
-    end: &[u16],
-    count: &[u16],
-    lists: &[u16],
-    i: usize,
-) -> usize
-    requires { ⌜ Ready (now block) (now start) (now first) (now end) (now count) (now lists) ⌝ }
-    requires { ⌜ i + 1 < columnsField (now block) ⌝ }
-    ensures { λ r. ⌜ (r ≡ length (sharedReads (matrixOf (now (block .entry))) i)) × (r ≤ 12) ⌝ }
-{
-    let j = i + 1;
-    let a = 12 * j;
-    let e = a + 12;
-    let p = wide(count[j]);
-    fold::shared(&lists[a..e], p, first, j)
-}
-
-// What column i + 1 takes over from column i: the least entry for each index of the reads that both have.
+// What column j takes over: nothing at column 0, else for each index of the s reads that it shares with the column before that one's least entry.
 fn take_over(
-    block: &[u8],
-    start: &[u32],
-    first: &[u16],
-    end: &[u16],
-    count: &[u16],
-    lists: &[u16],
-    i: usize,
-    t: usize,
-    work: &[u32],
-    taken: &mut [u32],
-)
-    requires { ⌜ Ready (now block) (now start) (now first) (now end) (now count) (now lists) ⌝ }
-    requires { ⌜ (i + 1 < columnsField (now block)) × (t ≡ entries (matrixOf (now block))) ⌝ }
-    requires { ⌜ (t ≤ length (now taken)) × (columnsField (now block) * t ≤ length (now work)) ⌝ }
-    ensures { λ _. ⌜ TakenOver (matrixOf (now (block .entry))) i (now (work .entry)) (now (taken .exit)) ⌝ }
-{
-    let s = shared_at(block, start, first, end, count, lists, i);
-    let q = wide(count[i]);
-    let from = i * t;
-    let to = from + column::entries(q);
-    column::carry(&work[from..to], column::entries(s), taken);
-}
-
-// The pass of column j, with what it takes over: all its entries, written through its part of the work room.
-fn pass_at(
     block: &[u8],
     start: &[u32],
     first: &[u16],
@@ -82,79 +35,56 @@ fn pass_at(
     lists: &[u16],
     j: usize,
     t: usize,
-    taken: &[u32],
+    s: usize,
+    work: &[u32],
+    taken: &mut [u32],
+)
+    requires { ⌜ Ready (now block) (now start) (now first) (now end) (now count) (now lists) ⌝ }
+    requires { ⌜ (j < columnsField (now block)) × (t ≡ entries (matrixOf (now block))) × (s ≡ length (sharedBefore (matrixOf (now block)) j)) ⌝ }
+    requires { ⌜ (t ≤ length (now taken)) × (columnsField (now block) * t ≤ length (now work)) ⌝ }
+    ensures { λ _. ⌜ TakenBefore (matrixOf (now (block .entry))) j (now (work .entry)) (now (taken .exit)) ⌝ }
+{
+    if j == 0 {
+        taken[0] = 0;
+        return;
+    }
+    let i = j - 1;
+    let q = wide(count[i]);
+    let from = i * t;
+    let to = from + column::entries(q);
+    column::carry(&work[from..to], column::entries(s), taken);
+}
+
+// Column j by the rule, from what the column before it holds: all its entries, written through its part of the work room.
+fn column_by_rule(
+    block: &[u8],
+    start: &[u32],
+    first: &[u16],
+    end: &[u16],
+    count: &[u16],
+    lists: &[u16],
+    j: usize,
+    t: usize,
+    taken: &mut [u32],
     work: &mut [u32],
 )
     requires { ⌜ Ready (now block) (now start) (now first) (now end) (now count) (now lists) ⌝ }
     requires { ⌜ (j < columnsField (now block)) × (t ≡ entries (matrixOf (now block))) ⌝ }
-    requires { ⌜ columnsField (now block) * t ≤ length (now work) ⌝ }
-    requires { ⌜ TakenFits (matrixOf (now block)) j (now taken) ⌝ }
-    ensures { λ _. ⌜ now (work .exit) ≡ laid (j * t) (passedOver (matrixOf (now (block .entry))) j (now (taken .entry))) (now (work .entry)) ⌝ }
+    requires { ⌜ (t ≤ length (now taken)) × (columnsField (now block) * t ≤ length (now work)) ⌝ }
+    requires { ⌜ (0 < j → (k : ℕ) → getD (columnOf (matrixOf (now block)) (now work) (j - 1)) k 0 ≤ 4000000000) ⌝ }
+    ensures { λ _. ⌜ now (work .exit) ≡ laid (j * t) (ruleColumn charge (matrixOf (now (block .entry))) j (columnOf (matrixOf (now (block .entry))) (now (work .entry)) (j - 1))) (now (work .entry)) ⌝ }
 {
     let a = 12 * j;
     let e = a + 12;
     let list = &lists[a..e];
     let p = wide(count[j]);
-    let w = cells::weights_at(block, start, first, end, list, p, j);
-    let turn = fold::turns(list, p, first, j);
+    let mut w = [[0u32; 2]; 12];
+    let mut turn = [0usize; 12];
+    let s = cells::prepare(block, start, first, end, list, p, j, &mut w, &mut turn);
+    take_over(block, start, first, end, count, lists, j, t, s, work, taken);
     let from = j * t;
     let to = from + t;
     column::fill(&w, &turn, p, taken, &mut work[from..to]);
-}
-
-// Column 0 by the rule.
-fn first_column(
-    block: &[u8],
-    start: &[u32],
-    first: &[u16],
-    end: &[u16],
-    count: &[u16],
-    lists: &[u16],
-    t: usize,
-    taken: &mut [u32],
-    work: &mut [u32],
-)
-    requires { ⌜ Ready (now block) (now start) (now first) (now end) (now count) (now lists) ⌝ }
-    requires { ⌜ (0 < columnsField (now block)) × (t ≡ entries (matrixOf (now block))) ⌝ }
-    requires { ⌜ (t ≤ length (now taken)) × (columnsField (now block) * t ≤ length (now work)) ⌝ }
-    ensures { λ _. ⌜ now (work .exit) ≡ laid 0 (ruleColumn charge (matrixOf (now (block .entry))) 0 []) (now (work .entry)) ⌝ }
-{
-    taken[0] = 0;
-    pass_at(block, start, first, end, count, lists, 0, t, taken, work);
-}
-
-// Column i + 1 by the rule, from what column i holds.
-fn next_column(
-    block: &[u8],
-    start: &[u32],
-    first: &[u16],
-    end: &[u16],
-    count: &[u16],
-    lists: &[u16],
-    i: usize,
-    t: usize,
-    taken: &mut [u32],
-    work: &mut [u32],
-)
-    requires { ⌜ Ready (now block) (now start) (now first) (now end) (now count) (now lists) ⌝ }
-    requires { ⌜ (i + 1 < columnsField (now block)) × (t ≡ entries (matrixOf (now block))) ⌝ }
-    requires { ⌜ (t ≤ length (now taken)) × (columnsField (now block) * t ≤ length (now work)) ⌝ }
-    requires { ⌜ ((k : ℕ) → getD (columnOf (matrixOf (now block)) (now work) i) k 0 ≤ 4000000000) ⌝ }
-    ensures { λ _. ⌜ now (work .exit) ≡ laid ((i + 1) * t) (ruleColumn charge (matrixOf (now (block .entry))) (i + 1) (columnOf (matrixOf (now (block .entry))) (now (work .entry)) i)) (now (work .entry)) ⌝ }
-{
-    take_over(block, start, first, end, count, lists, i, t, work, taken);
-    pass_at(
-        block,
-        start,
-        first,
-        end,
-        count,
-        lists,
-        i + 1,
-        t,
-        taken,
-        work,
-    );
 }
 
 // The table, column by column.
@@ -175,11 +105,10 @@ fn fill_table(
     requires { ⌜ (t ≤ length (now taken)) × (m * t ≤ length (now work)) ⌝ }
     ensures { λ _. ⌜ now (work .exit) ≡ over (table charge (matrixOf (now (block .entry)))) (now (work .entry)) ⌝ }
 {
-    first_column(block, start, first, end, count, lists, t, taken, work);
-    let mut i: usize = 0;
-    while i + 1 < m {
-        next_column(block, start, first, end, count, lists, i, t, taken, work);
-        i += 1;
+    let mut j: usize = 0;
+    while j < m {
+        column_by_rule(block, start, first, end, count, lists, j, t, taken, work);
+        j += 1;
     }
 }
 

@@ -18,7 +18,7 @@ returns c =
 returns-2 : tie.Need-returns-2
 returns-2 c =
     let s = c .before .before .before in
-    pair-told (s .args .marked) false (s .args .cells .now) (s .args .i) _ (c .before .if1 .left) (c .weights .ensures) (c .before .before .shared-slice-known .given _ .fits)
+    pair-told (s .args .marked) false (s .args .cells .now) (s .args .i) _ (c .before .if1 .left) (c .weights .ensures .0) (c .before .before .shared-slice-known .given _ .fits)
 
 pub pair-spec : {M : Type 1} → statement M
 pair-spec = tie.close (tie.spec marks-requires weights-requires returns returns-2)

@@ -1,6 +1,6 @@
 use borrow.Author.Needs.{needs}
 use native.Mathlib.Omega.{arith}
-use Rattle.column.proofs.Laws.{times-digit, pair-is}
+use Rattle.column.proofs.Laws.{times-digit, pair-light, pair-is}
 use Rattle.column.proofs.weights.Statement.{statement}
 use Rattle.column.proofs.weights.Tie as tie
 
@@ -33,8 +33,10 @@ sub-t11 c = times-digit _ _
 
 returns : tie.Need-returns
 returns c =
-    let s = c .before .before .before .before .before in
-    pair-is (s .args .cells .now) (s .args .i) _ _ (s .pre .1) (c .before .before .wide .ensures .0) (c .wide2 .ensures .0)
+    let s = c .before .before .before .before .before in (
+      pair-is (s .args .cells .now) (s .args .i) _ _ (s .pre .1) (c .before .before .wide .ensures .0) (c .wide2 .ensures .0),
+      pair-light (c .wide2 .result) (c .before .before .wide .result) (c .wide2 .ensures .1),
+    )
 
 pub weights-spec : {M : Type 1} → statement M
 weights-spec =

@@ -1,79 +1,27 @@
--- One cell: its marks by its letter, how large its pair is, and where it stands in the block.
-use Prim.Native.Nat.{ℕ, zero, suc, _+_, _-_, _*_, _/_, _%_, _≤_, _<_}
+-- Where a cell stands in the block, and the pairs of a list.
+use Prim.Native.Nat.{ℕ, _+_, _-_, _*_, _≤_, _<_}
 use borrow.Author.Tests.{eqb-true, eqb-false}
 use lib.Dec.{eqb}
 use lib.ListN.{length, getD, set, take, drop, length-take, length-drop}
 use lib.Seq.{getD-set-same, getD-set-other}
-use mathlib.Core.Bool.{Bool, true, false, cond}
-use mathlib.Core.List.{List, [], _∷_}
+use mathlib.Core.Bool.{Bool, true, false}
+use mathlib.Core.List.{List, []}
 use mathlib.Core.Logic.{_≢_}
 use mathlib.Core.Path.{_≡_, refl, sym, ap, ap₂, _∙_, subst}
 use native.Mathlib.Nat.{not-suc-le-zero}
 use native.Mathlib.Omega.{arith}
-use Rattle.meaning.specs.Numbers.{bit}
-use Rattle.meaning.specs.Block.{Cell, readsField, cellCount, cellsPart, cellAt, afterReads, readsPart, matrixOf}
+use Rattle.meaning.specs.Block.{readsField, cellCount, cellsPart, cellAt, afterReads, readsPart, matrixOf}
 use Rattle.meaning.specs.Active.{read, end, active, at}
-use Rattle.meaning.specs.Charge.{Letter, against}
-use Rattle.meaning.specs.Letters.{isFlip}
+use Rattle.meaning.specs.Charge.{Letter}
 use Rattle.meaning.specs.Refusals.{badCell, badCells}
 use Rattle.meaning.proofs.Closing.{active-cells}
 use Rattle.meaning.proofs.Refusals.{or-false-left}
 use Rattle.meaning.proofs.Formed.{Formed, formed}
 use Rattle.block.specs.Places.{cellsStart}
 use Rattle.block.proofs.CellChecks.{none-at}
-use Rattle.block.proofs.Fields.{byte-is}
-use Rattle.block.proofs.Laws.{good, read-sound, read-first, read-end, read-inside, cells-part, cells-inside, cell-is}
+use Rattle.block.proofs.Laws.{read-sound, read-first, read-end, read-inside, cells-part, cells-inside, cell-is}
 use Rattle.column.specs.Sums.{pairAt, LightPairs}
-use Rattle.cells.specs.Pairs.{marksOf, cellPair}
 use Rattle.cells.specs.Laid.{Laid}
-
--- a cell that the check 7 leaves has a letter up to 2
-pub letter-known : (cells : List ℕ) (i a : ℕ) → badCell (cellAt 2 cells i) ≡ false → a ≡ getD cells (2 * i) 0 → a ≤ 2
-unfolding cellAt
-letter-known cells i a h e = omega (arith, good (cellAt 2 cells i) h .letter-known)
-
--- its marks without a branch
-pub marks-are : (cells : List ℕ) (i a : ℕ) → badCell (cellAt 2 cells i) ≡ false → a ≡ getD cells (2 * i) 0
-    → a % 2 ∷ (1 - a / 2 - a % 2) ∷ [] ≡ marksOf (cellAt 2 cells i)
-unfolding cellAt isFlip
-marks-are cells i a h e = go a (letter-known cells i a h e) ∙ ap (λ (x : ℕ). bit (eqb x 1) ∷ bit (eqb x 0) ∷ []) e
-  where
-    go : (a : ℕ) → a ≤ 2 → a % 2 ∷ (1 - a / 2 - a % 2) ∷ [] ≡ bit (eqb a 1) ∷ bit (eqb a 0) ∷ []
-    go zero l = refl
-    go (suc zero) l = refl
-    go (suc (suc zero)) l = refl
-    go (suc (suc (suc a))) l = absurd (omega arith)
-
--- no part of a pair is above a limit that holds for 1 and the weight
-pair-small : (marked : Bool) (c : Cell) (lim : ℕ) → 1 ≤ lim → c .weight ≤ lim → (l : Letter) → pairAt (cellPair marked c) l ≤ lim
-unfolding against
-pair-small marked c lim one h = go marked
-  where
-    mark : (b : Bool) → bit b ≤ lim
-    mark true = one
-    mark false = omega arith
-
-    weight : (b : Bool) → cond b (c .weight) 0 ≤ lim
-    weight true = h
-    weight false = omega arith
-
-    go : (marked : Bool) (l : Letter) → pairAt (cellPair marked c) l ≤ lim
-    go true true = mark (isFlip true c)
-    go true false = mark (isFlip false c)
-    go false true = weight (eqb (c .letter) 0)
-    go false false = weight (eqb (c .letter) 1)
-
-weight-is : (cells : List ℕ) (i : ℕ) → cellAt 2 cells i .weight ≡ getD cells (2 * i + 1) 0
-unfolding cellAt
-weight-is cells i = byte-is cells (2 * i + 1)
-
--- the pair that a branch gives, and how large it is
-pub pair-told : (marked m : Bool) (cells : List ℕ) (i : ℕ) (x : List ℕ) → marked ≡ m → x ≡ cellPair m (cellAt 2 cells i) → getD cells (2 * i + 1) 0 < 256
-    → (x ≡ cellPair marked (cellAt 2 cells i)) × ((l : Letter) → pairAt x l ≤ 255)
-pair-told marked m cells i x em ex h = (
-  ex ∙ ap (λ (t : Bool). cellPair t (cellAt 2 cells i)) (sym em),
-  λ l. subst (λ (y : List ℕ). pairAt y l ≤ 255) (sym ex) (pair-small m (cellAt 2 cells i) 255 (omega arith) (omega (arith, weight-is cells i)) l),
-)
 
 -- a place below n in the part of n bytes from s on
 part-within : (b : List ℕ) (s n i : ℕ) → s + n ≤ length b → i < n → i < length (take (s + n - s) (drop s b))

@@ -2,24 +2,22 @@
 use Prim.Native.Nat.{ℕ, zero, suc, _+_, _*_, _^_, _≤_, _<_}
 use borrow.Author.Tests.{eqb-true, eq-eqb, ne-eqb}
 use lib.Bits.{bitXor, xor-zero-r, xor-lt}
-use lib.Dec.{eqb, ltb}
+use lib.Dec.{eqb}
 use lib.ListN.{length, getD, take, drop, length-append}
 use lib.Pow.{pow-pos}
-use lib.Seq.{take-suc, split-at, length-take-le, take-length, getD-take}
+use lib.Seq.{take-suc, split-at, take-length}
 use mathlib.Core.Bool.{Bool, true, false, cond, not, _&&_, _||_, or-true, or-false}
 use mathlib.Core.List.{List, [], _∷_, _++_, tail}
 use mathlib.Core.Path.{_≡_, refl, sym, ap, _∙_, ap₂, subst}
 use native.Mathlib.Nat.{le-refl, not-suc-le-zero, le-of-suc-le-suc}
 use native.Mathlib.Omega.{arith}
 use Rattle.meaning.specs.Numbers.{bit, sumTo, keep, has}
-use Rattle.meaning.specs.Division.{Division, put, allZero}
+use Rattle.meaning.specs.Division.{Division, allZero}
 use Rattle.meaning.specs.Table.{pattern}
 use Rattle.meaning.specs.Rule.{indexOf, indexAt}
-use Rattle.meaning.proofs.Totals.{sum-ext}
 use Rattle.meaning.proofs.Lists.{Distinct, distinct-keep, has-append, has-keep, keep-append, and-right}
-use Rattle.meaning.proofs.Least.{put-same}
 use Rattle.meaning.proofs.Index.{index-at-ext, spread-digit, spread-out}
-use Rattle.fold.specs.Turn.{sideAt, foldTo, startsBefore, sharedTo, maskOf, turnAt}
+use Rattle.fold.specs.Turn.{sideAt, foldTo, sharedTo, maskOf, turnAt}
 use Rattle.fold.proofs.Places.{ne-of-has, not-before}
 use Rattle.fold.proofs.Digits.{Turned, index-at-turned}
 

@@ -4,9 +4,8 @@ use mathlib.Core.Path.{_≡_, refl, sym, ap, _∙_, subst}
 use mathlib.Core.Bool.{Bool, true, false, cond}
 use mathlib.Core.List.{List}
 use native.Mathlib.Nat.{le-trans, le-of-eq}
-use native.Mathlib.Omega.{arith}
 use lib.ListN.{length, drop}
-use lib.Dec.{eqb, ltb}
+use lib.Dec.{eqb}
 use borrow.Author.Tests.{eqb-true, eqb-false, lt-ltb, le-ltb}
 use Rattle.meaning.specs.Numbers.{bit}
 use Rattle.meaning.specs.Block.{columnsField, readsField, readsPart, cellSize, matrixOf}

@@ -7,8 +7,8 @@ use native.Mathlib.Nat.{add-zero, zero-add}
 use native.Mathlib.Numerals.{add-one}
 use native.Mathlib.Decide.{decLe}
 use native.Mathlib.Omega.{arith}
-use lib.ListN.{length, getD, take, drop, set, length-append, length-drop, List·getD-eq-default, take-append-drop}
-use lib.Seq.{length-take-le, take-add, drop-at, take-at, take-append-le, take-take, drop-drop, ext-getD}
+use lib.ListN.{length, getD, take, drop, set, length-drop, List·getD-eq-default, take-append-drop}
+use lib.Seq.{length-take-le, drop-at, take-at, drop-drop, ext-getD}
 use lib.Dec.{eqb}
 use Rattle.meaning.specs.Numbers.{bit, run, has}
 use Rattle.meaning.specs.Block.{Matrix}
@@ -30,17 +30,6 @@ use Rattle.meaning.proofs.Rooms.{length-laid, set-laid-end, set-laid-before}
 use Rattle.answer.specs.Head.{headBytes}
 use Rattle.answer.proofs.Laws.{answer-laid}
 
--- what lies before a laid part is kept
-pub front-kept : (a n at : ℕ) (new old : List ℕ) → a + n ≤ at → at ≤ length old → take n (drop a (laid at new old)) ≡ take n (drop a old)
-front-kept a n at new old h l =
-    let m : length (take at old) ≡ at = length-take-le at old l in
-    inner (laid at new old) (subst (λ (x : ℕ). a ≤ x) (sym (length-append (take at old) (new ++ drop (at + length new) old))) (omega arith))
-    ∙ ap (drop a) (take-append-le (a + n) (take at old) (new ++ drop (at + length new) old) (omega arith) ∙ take-take (a + n) at old h)
-    ∙ sym (inner old (omega arith))
-  where
-    inner : (x : List ℕ) → a ≤ length x → take n (drop a x) ≡ drop a (take (a + n) x)
-    inner x k = sym (ap (drop a) (take-add a n x) ∙ drop-at (take a x) (take n (drop a x)) a (length-take-le a x k))
-
 -- the letters of the first j columns, in both haplotypes
 abbrev pub lettersTo : ℕ → ℕ → (ℕ → ℕ) → (ℕ → ℕ) → ℕ → List ℕ → List ℕ
 lettersTo n m f g j out = laid (17 + n + m) (run 0 j g) (laid (17 + n) (run 0 j f) out)
@@ -57,12 +46,6 @@ module _ (n m : ℕ) (f g : ℕ → ℕ) (out : List ℕ) (fits : 17 + n + 2 * m
   letters-length j l =
       let a : length (laid (17 + n) (run 0 j f) out) ≡ length out = length-laid (17 + n) (run 0 j f) out (omega (arith, length-run 0 j f)) in
       length-laid (17 + n + m) (run 0 j g) (laid (17 + n) (run 0 j f) out) (omega (arith, length-run 0 j g)) ∙ a
-
-  pub letters-sides : (j : ℕ) → j ≤ m → take n (drop 17 (lettersTo n m f g j out)) ≡ take n (drop 17 out)
-  letters-sides j l =
-      let a : length (laid (17 + n) (run 0 j f) out) ≡ length out = length-laid (17 + n) (run 0 j f) out (omega (arith, length-run 0 j f)) in
-      front-kept 17 n (17 + n + m) (run 0 j g) (laid (17 + n) (run 0 j f) out) (omega arith) (omega arith)
-      ∙ front-kept 17 n (17 + n) (run 0 j f) out (omega arith) (omega arith)
 
   pub letters-more : (j : ℕ) → j < m → set (set (lettersTo n m f g j out) (17 + n + j) (f j)) (17 + n + m + j) (g j) ≡ lettersTo n m f g (j + 1) out
   letters-more j l =

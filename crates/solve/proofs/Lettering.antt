@@ -4,43 +4,34 @@ use mathlib.Core.Path.{_≡_, refl, sym, ap, ap₂, _∙_, subst}
 use mathlib.Core.Bool.{true, false}
 use mathlib.Core.List.{List}
 use native.Mathlib.Omega.{arith}
-use lib.ListN.{length, getD, take, drop, set, length-drop}
+use lib.ListN.{length, take, drop, set, length-drop}
 use lib.Seq.{length-take-le}
 use Rattle.meaning.specs.Numbers.{bit, sumTo}
-use Rattle.meaning.specs.Block.{Matrix, columnsField, readsField, matrixOf}
+use Rattle.meaning.specs.Block.{Matrix, columnsField, matrixOf}
 use Rattle.meaning.specs.Active.{count, read, at}
-use Rattle.meaning.specs.Closing.{activeReads}
 use Rattle.meaning.specs.Division.{Side, Division}
 use Rattle.meaning.specs.Charge.{W}
 use Rattle.meaning.specs.Letters.{general, reported, haplotypes, isFlip, flips}
 use Rattle.meaning.specs.Answer.{divisionOf, lettersOf}
 use Rattle.meaning.specs.Call.{laid}
 use Rattle.column.proofs.Laws.{leaf-more}
-use Rattle.cells.specs.declared.Letters.{Letters}
-use Rattle.cells.specs.Laid.{Laid, Lettered}
-use Rattle.solve.specs.Ready.{Ready}
-use Rattle.solve.proofs.Columns.{listPart, cells-laid}
-use Rattle.solve.proofs.Back.{list-is}
-use Rattle.solve.proofs.Answered.{lettersTo, letters-none, letters-length, letters-sides, letters-more}
+use Rattle.tally.specs.declared.Letters.{Letters}
+use Rattle.tally.specs.Tally.{Tallied, Lettered}
+use Rattle.solve.proofs.Answered.{lettersTo, letters-none, letters-length, letters-more}
 
 -- the sides as a part of the output
 module _ (n : ℕ) (out : List ℕ) where
   sides-count : 17 + n - 17 ≡ n
   sides-count = omega arith
 
-  sides-length : 17 + n ≤ length out → length (take (17 + n - 17) (drop 17 out)) ≡ n
+  pub sides-length : 17 + n ≤ length out → length (take (17 + n - 17) (drop 17 out)) ≡ n
   sides-length h = length-take-le (17 + n - 17) (drop 17 out) (omega (arith, length-drop 17 out)) ∙ sides-count
 
-  pub sides-lettered : (M : Matrix) (j : ℕ) (x : Letters) → Lettered M (divisionOf (take (17 + n - 17) (drop 17 out))) j x → Lettered M (divisionOf (take n (drop 17 out))) j x
-  sides-lettered M j x = subst (λ (k : ℕ). Lettered M (divisionOf (take k (drop 17 out))) j x) sides-count
-
--- what is asked for the letters of column j
-pub letters-fit : (b start first after counts lists : List ℕ) (ready : Ready b start first after counts lists)
-    (j : ℕ) → j < columnsField b → (p : ℕ) → p ≡ getD counts j 0 → (n : ℕ) (out : List ℕ) → n ≡ readsField b → 17 + n ≤ length out
-    → Laid b start first after (listPart b start first after counts lists ready j) p j
-    × ((take p (listPart b start first after counts lists ready j) ≡ activeReads (matrixOf b) j) × (readsField b ≤ length (take (17 + n - 17) (drop 17 out))))
-letters-fit b start first after counts lists ready j l p q n out e h =
-    (cells-laid b start first after counts lists ready j l p q, (list-is b start first after counts lists ready j l p q, omega (arith, sides-length n out h)))
+  -- what the tally of these sides tells of a column
+  pub sides-lettered : (b tally : List ℕ) → Tallied b (take (17 + n - 17) (drop 17 out)) tally → (j : ℕ) → j < columnsField b → (x : Letters)
+      → ((b sides : List ℕ) → Tallied b sides tally → j < columnsField b → Lettered (matrixOf b) (divisionOf sides) j x)
+      → Lettered (matrixOf b) (divisionOf (take n (drop 17 out))) j x
+  sides-lettered b tally t j l x h = subst (λ (k : ℕ). Lettered (matrixOf b) (divisionOf (take k (drop 17 out))) j x) sides-count (h b (take (17 + n - 17) (drop 17 out)) t l)
 
 -- what is reported of a side at a column, and the column's flips
 abbrev pub letterAt : Matrix → Division → Side → ℕ → ℕ
@@ -59,7 +50,7 @@ pub record Written (M : Matrix) (n m : ℕ) (old out : List ℕ) (flipped j : �
   pub same-length : length out ≡ length old
   pub letters : out ≡ lettersTo n m (letterAt M (divisionIn n old) false) (letterAt M (divisionIn n old) true) j old
   pub flips-are : flipped ≡ sumTo j (flipsAt M (divisionIn n old))
-  pub flips-few : flipped ≤ 12 * j
+  pub flips-few : flipped ≤ 1024 * j
 
 module _ (M : Matrix) (n m : ℕ) (old : List ℕ) (fits : 17 + n + 2 * m ≤ length old) where
   abbrev d : Division
@@ -77,16 +68,9 @@ module _ (M : Matrix) (n m : ℕ) (old : List ℕ) (fits : 17 + n + 2 * m ≤ le
       }
 
   module _ (out : List ℕ) (flipped j : ℕ) (w : Written M n m old out flipped j) where
-    -- the sides are as they were
-    sides-kept : divisionIn n out ≡ d
-    sides-kept =
-        ap (divisionIn n) (w .letters)
-        ∙ ap divisionOf (letters-sides n m (letterAt M d false) (letterAt M d true) old fits j (w .inside))
-
-    pub written-more : j < m → (x : Letters) → Lettered M (divisionIn n out) j x
+    pub written-more : j < m → (x : Letters) → Lettered M d j x
         → Written M n m old (set (set out (17 + n + j) (x .first)) (17 + n + m + j) (x .second)) (flipped + x .flips) (j + 1)
-    written-more l x y =
-        let z : Lettered M d j x = subst (λ (e : Division). Lettered M e j x) sides-kept y in
+    written-more l x z =
         let new : set (set out (17 + n + j) (x .first)) (17 + n + m + j) (x .second) ≡ lettersTo n m (letterAt M d false) (letterAt M d true) (j + 1) old =
         ap (λ (o : List ℕ). set (set o (17 + n + j) (x .first)) (17 + n + m + j) (x .second)) (w .letters)
         ∙ ap₂ (λ (a c : ℕ). set (set (lettersTo n m (letterAt M d false) (letterAt M d true) j old) (17 + n + j) a) (17 + n + m + j) c) (z .first-is) (z .second-is)

@@ -15,7 +15,7 @@ ghost use Rattle.meaning.specs.Answer.{sidesOf, divisionOf, lettersOf, answer};
 ghost use Rattle.meaning.specs.Refusals.{blockRefusal};
 ghost use Rattle.meaning.specs.Call.{over, laid, call};
 ghost use Rattle.meaning.specs.Rule.{ruleColumn, columnOf, entryFor, leastEntry, wayBack};
-ghost use Rattle.cells.specs.Laid.{Lettered};
+ghost use Rattle.block.specs.Places.{Noted};
 ghost use Rattle.solve.specs.Ready.{Ready, Piling, ThinColumns, sharedBefore, TakenBefore};
 ghost use Rattle.solve.specs.Outcomes.{ColumnsFound, resultOf};
 
@@ -202,50 +202,30 @@ pub fn least_last(
     back::least_from(&work[from..to], 0, 1)
 }
 
-// The letters of column j that are reported, and the flips, by the sides that stand in the output.
-fn column_letters(
-    block: &[u8],
-    start: &[u32],
-    first: &[u16],
-    end: &[u16],
-    count: &[u16],
-    lists: &[u16],
-    n: usize,
-    j: usize,
-    out: &[u8],
-) -> cells::Letters
-    requires { ⌜ Ready (now block) (now start) (now first) (now end) (now count) (now lists) ⌝ }
-    requires { ⌜ (j < columnsField (now block)) × (n ≡ readsField (now block)) × (17 + n ≤ length (now out)) ⌝ }
-    ensures { λ r. ⌜ Lettered (matrixOf (now (block .entry))) (divisionOf (take n (drop 17 (now (out .entry))))) j r ⌝ }
-{
-    let a = 12 * j;
-    let e = a + 12;
-    let p = wide(count[j]);
-    let z = 17 + n;
-    cells::letters_at(block, start, first, end, &lists[a..e], p, j, &out[17..z])
-}
-
-// The letters of both haplotypes, behind the sides that stand in the output; and the number of flips.
+// The letters of both haplotypes, behind the sides that stand in the output; and the number of flips. The tally is room to work in, of zeros.
 fn write_letters(
     block: &[u8],
     start: &[u32],
     first: &[u16],
     end: &[u16],
-    count: &[u16],
-    lists: &[u16],
     m: usize,
     n: usize,
+    tally: &mut [u32],
     out: &mut [u8],
 ) -> u32
-    requires { ⌜ Ready (now block) (now start) (now first) (now end) (now count) (now lists) ⌝ }
+    requires { ⌜ (blockRefusal 1 (now block) .number ≡ 0) × Noted (now block) (now start) (now first) (now end) ⌝ }
     requires { ⌜ (m ≡ columnsField (now block)) × (n ≡ readsField (now block)) × (17 + n + 2 * m ≤ length (now out)) ⌝ }
+    requires { ⌜ (n ≤ length (now start)) × (n ≤ length (now first)) × (n ≤ length (now end)) ⌝ }
+    requires { ⌜ (4 * m ≤ length (now tally)) × ((k : ℕ) → getD (now tally) k 0 ≡ 0) ⌝ }
     ensures { λ r. ⌜ r ≡ flips (matrixOf (now (block .entry))) (divisionOf (take n (drop 17 (now (out .entry))))) (haplotypes general (matrixOf (now (block .entry))) (divisionOf (take n (drop 17 (now (out .entry)))))) ⌝ }
     ensures { λ _. ⌜ now (out .exit) ≡ laid (17 + n + m) (lettersOf general (matrixOf (now (block .entry))) (divisionOf (take n (drop 17 (now (out .entry))))) true) (laid (17 + n) (lettersOf general (matrixOf (now (block .entry))) (divisionOf (take n (drop 17 (now (out .entry))))) false) (now (out .entry))) ⌝ }
 {
+    let z = 17 + n;
+    tally::tally(block, start, first, end, n, &out[17..z], tally);
     let mut flips: u32 = 0;
     let mut j: usize = 0;
     while j < m {
-        let x = column_letters(block, start, first, end, count, lists, n, j, out);
+        let x = tally::letters_at(tally, j);
         out[17 + n + j] = x.first;
         out[17 + n + m + j] = x.second;
         flips += x.flips;
@@ -288,11 +268,13 @@ fn write_answer(
     n: usize,
     t: usize,
     work: &[u32],
+    tally: &mut [u32],
     out: &mut [u8],
 ) -> u32
     requires { ⌜ Ready (now block) (now start) (now first) (now end) (now count) (now lists) ⌝ }
     requires { ⌜ (m ≡ columnsField (now block)) × (n ≡ readsField (now block)) × (t ≡ entries (matrixOf (now block))) ⌝ }
     requires { ⌜ (m * t ≤ length (now work)) × (17 + n + 2 * m ≤ length (now out)) ⌝ }
+    requires { ⌜ (4 * m ≤ length (now tally)) × ((k : ℕ) → getD (now tally) k 0 ≡ 0) ⌝ }
     requires { ⌜ ((j : ℕ) → j < columnsField (now block) → columnOf (matrixOf (now block)) (now work) j ≡ column charge (matrixOf (now block)) j) ⌝ }
     ensures { λ r. ⌜ r ≡ leastCost charge (matrixOf (now (block .entry))) ⌝ }
     ensures { λ _. ⌜ now (out .exit) ≡ over (answer general (matrixOf (now (block .entry)))) (now (out .entry)) ⌝ }
@@ -310,7 +292,7 @@ fn write_answer(
         work,
         &mut out[17..e],
     );
-    let flips = write_letters(block, start, first, end, count, lists, m, n, out);
+    let flips = write_letters(block, start, first, end, m, n, tally, out);
     let cost = least_last(block, start, first, end, count, lists, m, t, work);
     answer::put_head(out, cost, flips, n, m);
     cost
@@ -391,12 +373,14 @@ fn sized(
     n: usize,
     t: usize,
     taken: &mut [u32],
+    tally: &mut [u32],
     work: &mut [u32],
     out: &mut [u8],
 ) -> Outcome
     requires { ⌜ Piling (now block) (now start) (now first) (now end) (now count) m n ⌝ }
     requires { ⌜ ThinColumns (now block) t ⌝ }
     requires { ⌜ (12 * m ≤ length (now lists)) × (used (min n 12) ≤ length (now taken)) ⌝ }
+    requires { ⌜ (4 * m ≤ length (now tally)) × ((k : ℕ) → getD (now tally) k 0 ≡ 0) ⌝ }
     ensures { λ r. ⌜ resultOf r (now (work .exit)) (now (out .exit)) ≡ call (now (block .entry)) (now (work .entry)) (now (out .entry)) ⌝ }
 {
     let need = m * t;
@@ -408,12 +392,25 @@ fn sized(
         return Outcome::Output(size as u32);
     }
     tabled(block, start, first, end, count, lists, m, n, t, taken, work);
-    let cost = write_answer(block, start, first, end, count, lists, m, n, t, work, out);
+    let cost = write_answer(
+        block,
+        start,
+        first,
+        end,
+        count,
+        lists,
+        m,
+        n,
+        t,
+        work,
+        tally,
+        out,
+    );
     Outcome::Cost(cost)
 }
 
 // Solves a block that passes the checks 1 to 8. The arrays are room to work in: three for the reads, two for the columns, one for what
-// a column takes over.
+// a column takes over, one for the tally of the letters.
 pub fn solve(
     block: &[u8],
     m: usize,
@@ -426,11 +423,13 @@ pub fn solve(
     count: &mut [u16],
     lists: &mut [u16],
     taken: &mut [u32],
+    tally: &mut [u32],
 ) -> Outcome
     requires { ⌜ (blockRefusal 1 (now block) .number ≡ 0) × (m ≡ columnsField (now block)) × (n ≡ readsField (now block)) ⌝ }
     requires { ⌜ (n ≤ length (now start)) × (n ≤ length (now first)) × (n ≤ length (now end)) ⌝ }
     requires { ⌜ (m ≤ length (now count)) × (12 * m ≤ length (now lists)) × (used (min n 12) ≤ length (now taken)) ⌝ }
     requires { ⌜ now count ≡ replicate (length (now count)) 0 ⌝ }
+    requires { ⌜ (4 * m ≤ length (now tally)) × ((k : ℕ) → getD (now tally) k 0 ≡ 0) ⌝ }
     ensures { λ r. ⌜ resultOf r (now (work .exit)) (now (out .exit)) ≡ call (now (block .entry)) (now (work .entry)) (now (out .entry)) ⌝ }
 {
     let c = piled(block, m, n, start, first, end, count);
@@ -447,6 +446,7 @@ pub fn solve(
             n,
             t,
             taken,
+            tally,
             work,
             out,
         ),

@@ -50,6 +50,7 @@ fn small(block: &[u8], m: usize, n: usize, work: &mut [u32], out: &mut [u8]) -> 
     let mut count = [0u16; 32];
     let mut lists = [0u16; 384];
     let mut taken = [0u32; 64];
+    let mut tally = [0u32; 128];
     solve::solve(
         block,
         m,
@@ -62,6 +63,7 @@ fn small(block: &[u8], m: usize, n: usize, work: &mut [u32], out: &mut [u8]) -> 
         &mut count,
         &mut lists,
         &mut taken,
+        &mut tally,
     )
 }
 
@@ -77,6 +79,7 @@ fn large(block: &[u8], m: usize, n: usize, work: &mut [u32], out: &mut [u8]) -> 
     let mut count = [0u16; 1024];
     let mut lists = [0u16; 12288];
     let mut taken = [0u32; 2048];
+    let mut tally = [0u32; 4096];
     solve::solve(
         block,
         m,
@@ -89,6 +92,7 @@ fn large(block: &[u8], m: usize, n: usize, work: &mut [u32], out: &mut [u8]) -> 
         &mut count,
         &mut lists,
         &mut taken,
+        &mut tally,
     )
 }
 
@@ -190,6 +194,7 @@ fn judgement(
     let mut count = [0u16; 1024];
     let mut lists = [0u16; 12288];
     let mut taken = [0u32; 2048];
+    let mut tally = [0u32; 4096];
     let mut sides = [0u8; 1024];
     verdict::judge(
         block,
@@ -203,6 +208,7 @@ fn judgement(
         &mut count,
         &mut lists,
         &mut taken,
+        &mut tally,
         &mut sides,
     )
 }

@@ -1,11 +1,11 @@
 -- One side of a column, and the verdicts 53 and 54 column by column. Assumes nothing.
-use Prim.Native.Nat.{ℕ, _+_, _-_, _<_}
+use Prim.Native.Nat.{ℕ, _+_, _<_}
 use mathlib.Core.Bool.{Bool, true, false, cond, not, _&&_, _||_}
 use mathlib.Core.List.{List, []}
 use mathlib.Core.Logic.{_≢_}
 use mathlib.Core.Path.{_≡_, refl, sym, ap, _∙_}
 use native.Mathlib.Omega.{arith}
-use lib.ListN.{getD, take, drop}
+use lib.ListN.{getD}
 use lib.Dec.{eqb}
 use borrow.Author.Tests.{eq-eqb, ne-eqb}
 use Rattle.meaning.specs.Numbers.{anyTo}
@@ -13,7 +13,6 @@ use Rattle.meaning.specs.Block.{Matrix}
 use Rattle.meaning.specs.Division.{Side}
 use Rattle.meaning.specs.Charge.{Letter, W}
 use Rattle.meaning.specs.Letters.{letterOf, tied, reported}
-use Rattle.meaning.specs.Answer.{divisionOf}
 use Rattle.meaning.specs.Judge.{statedReads, statedColumns, statedDivision, statedLetter, statedHaplotypes, falseDashAt, falseDash}
 use Rattle.verdict.specs.declared.SideAt.{SideAt}
 use Rattle.verdict.specs.declared.ColumnAt.{ColumnAt}
@@ -37,11 +36,7 @@ a-dash x b h = sym (simp (eq-eqb x 2 h))
 pub other-than : (x y z : ℕ) → y ≡ z → not (eqb x y) ≡ not (eqb x z)
 other-than x y z e = ap (λ (k : ℕ). not (eqb x k)) e
 
--- the four sums by the part of the answer that its sides are
-pub sums-stated : (M : Matrix) (a : List ℕ) (n j : ℕ) (s : List (List ℕ)) → statedReads a ≡ n → s ≡ arrayOf (W M (divisionOf (take (17 + n - 17) (drop 17 a))) j) → s ≡ arrayOf (W M (statedDivision a) j)
-sums-stated M a n j s h e = e ∙ ap (λ (k : ℕ). arrayOf (W M (divisionOf (take k (drop 17 a))) j)) (let z : 17 + n - 17 ≡ statedReads a = omega arith in z)
-
--- what an array of these sums and two letters say of column j
+-- what an array of the four sums and two letters say of column j
 pub stands : (M : Matrix) (a : List ℕ) (m n j : ℕ) (s : List (List ℕ)) → Sized a m n → s ≡ arrayOf (W M (statedDivision a) j)
     → Stands M a j
     (record {

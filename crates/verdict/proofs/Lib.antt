@@ -1,5 +1,6 @@
 pub mod Searched
 pub mod Marks
+pub mod Tallies
 pub mod AtColumn
 pub mod Weighing
 pub mod Tabled

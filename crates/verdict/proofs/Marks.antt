@@ -68,11 +68,14 @@ unfolding anyTo
 any-ext zero f g h = refl
 any-ext (suc n) f g h = ap₂ _||_ (any-ext n f g (λ i l. h i (omega arith))) (h n (omega arith))
 
+-- a part has as many bytes as it is long
+pub part-length : (a : List ℕ) (k e n : ℕ) → e ≤ length a → e ≡ k + n → length (take (e - k) (drop k a)) ≡ n
+part-length a k e n l h = length-take-le (e - k) (drop k a) (omega (arith, length-drop k a)) ∙ omega arith
+
 -- a test at some byte of a part is a test at some byte of the answer
 part-any : (a : List ℕ) (k e n : ℕ) (t : ℕ → Bool) → e ≤ length a → e ≡ k + n → anyTo (length (take (e - k) (drop k a))) (λ i. t (getD (take (e - k) (drop k a)) i 0)) ≡ anyTo n (λ i. t (getD a (k + i) 0))
 part-any a k e n t l h =
-    let size : length (take (e - k) (drop k a)) ≡ n = length-take-le (e - k) (drop k a) (omega (arith, length-drop k a)) ∙ omega arith in
-    ap (λ (x : ℕ). anyTo x (λ i. t (getD (take (e - k) (drop k a)) i 0))) size
+    ap (λ (x : ℕ). anyTo x (λ i. t (getD (take (e - k) (drop k a)) i 0))) (part-length a k e n l h)
     ∙ any-ext n _ _ (λ i j. ap t (getD-take (e - k) (drop k a) i 0 (omega arith) ∙ getD-drop k a i 0))
 
 module _ (a : List ℕ) (m n : ℕ) (sized : Sized a m n) (above : Bool)

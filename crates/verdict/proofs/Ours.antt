@@ -5,8 +5,8 @@ use mathlib.Core.List.{List}
 use mathlib.Core.Path.{_≡_, refl, sym, ap, ap₂, _∙_}
 use native.Mathlib.Nat.{add-zero, add-suc}
 use native.Mathlib.Omega.{arith}
-use lib.ListN.{length, getD, take, drop, length-drop}
-use lib.Seq.{getD-take, getD-drop, length-take-le, ext-getD}
+use lib.ListN.{length, getD, take, drop}
+use lib.Seq.{getD-take, getD-drop, ext-getD}
 use lib.Dec.{eqb}
 use borrow.Author.Tests.{eqb-true}
 use Rattle.meaning.specs.Numbers.{bit, anyTo}
@@ -22,7 +22,7 @@ use Rattle.meaning.proofs.AnswerBytes.{answer-side, answer-letter}
 use Rattle.block.proofs.CellChecks.{none-at}
 use Rattle.solve.proofs.Answered.{sides-division}
 use Rattle.verdict.specs.Stated.{Sized, otherLetterAt, otherLetters}
-use Rattle.verdict.proofs.Marks.{any-ext}
+use Rattle.verdict.proofs.Marks.{any-ext, part-length}
 
 -- a test at some of j + k places, or on one of two sides
 any-split : (j k : ℕ) (f : ℕ → Bool) → anyTo (j + k) f ≡ (anyTo j f || anyTo k (λ i. f (j + i)))
@@ -90,7 +90,7 @@ module _ (M : Matrix) (a : List ℕ) (m n : ℕ) (sized : Sized a m n) (columns 
 
       same-sides : theirs ≡ ours
       same-sides =
-          let size : length theirs ≡ n = length-take-le (17 + n - 17) (drop 17 a) (omega (arith, length-drop 17 a, sized .whole)) ∙ omega arith in
+          let size : length theirs ≡ n = part-length a 17 (17 + n) n (omega (arith, sized .whole)) refl in
           ext-getD 0 theirs ours (size ∙ sym ours-length)
           (λ i l. equal _ _ (none-at (length ours) (λ k. not (eqb (getD theirs k 0) (getD ours k 0))) (sym told ∙ same) i (omega (arith, ours-length))))
 

@@ -1,53 +1,51 @@
 -- The weight of the entries that disagree, column by column. Assumes nothing.
-use Prim.Native.Nat.{ℕ, _+_, _-_, _*_, _^_, _≤_, _<_, zero-le}
+use Prim.Native.Nat.{ℕ, _+_, _*_, _≤_, _<_, zero-le}
 use mathlib.Core.Bool.{true, false}
 use mathlib.Core.List.{List}
-use mathlib.Core.Path.{_≡_, refl, sym, ap, ap₂, _∙_, subst}
-use native.Mathlib.Nat.{le-trans, le-of-eq, mul-le-mul}
+use mathlib.Core.Path.{_≡_, refl, sym, ap, ap₂, _∙_}
+use native.Mathlib.Nat.{le-trans}
 use native.Mathlib.Omega.{arith}
 use Rattle.meaning.specs.Numbers.{sumTo}
-use Rattle.meaning.specs.Block.{Matrix, versionField, columnsField, matrixOf}
-use Rattle.meaning.specs.Active.{activeCount}
-use Rattle.meaning.specs.Charge.{W}
+use Rattle.meaning.specs.Block.{Matrix, matrixOf}
+use Rattle.meaning.specs.Active.{count, read, at}
+use Rattle.meaning.specs.Charge.{against, W}
 use Rattle.meaning.specs.Letters.{disagreement}
 use Rattle.meaning.specs.Judge.{statedDivision, statedHaplotypes}
-use Rattle.meaning.proofs.Totals.{sum-ext}
+use Rattle.meaning.proofs.Totals.{sum-ext, sum-bound}
 use Rattle.meaning.proofs.Sums.{column-sides}
-use Rattle.meaning.proofs.Closing.{length-active}
-use Rattle.meaning.proofs.Bounds.{Bytes, heaviest, block-light, sums-bound}
+use Rattle.meaning.proofs.Bounds.{against-le}
+use Rattle.meaning.proofs.Formed.{formed}
 use Rattle.column.proofs.Laws.{leaf-more}
-use Rattle.solve.specs.Ready.{Ready}
-use Rattle.solve.proofs.Sizes.{columns-are, ready-formed, ready-placed}
+use Rattle.solve.proofs.Sizes.{reads-are}
 use Rattle.verdict.specs.declared.ColumnAt.{ColumnAt}
-use Rattle.verdict.specs.Stated.{Stands, againstOf}
+use Rattle.verdict.specs.Stated.{StatedTally, Stands, againstOf}
 use Rattle.verdict.proofs.AtColumn.{against-at}
 
 -- of column j, by sides
 abbrev pub weightAt : Matrix → List ℕ → ℕ → ℕ
 weightAt M a j = W M (statedDivision a) j false (statedHaplotypes a false j) + W M (statedDivision a) j true (statedHaplotypes a true j)
 
--- 12 reads of weight 255 at most
-pub weight-small : (b start first after counts lists : List ℕ) → Ready b start first after counts lists → Bytes b → (a : List ℕ) (j : ℕ) → j < columnsField b → weightAt (matrixOf b) a j ≤ 3060
-weight-small b start first after counts lists ready bytes a j l =
-    let head = ready-formed b start first after counts lists ready .head in
-    let version : versionField b ≡ 1 = omega (arith, head .old, head .known) in
-    let light : heaviest b ≡ 255 = ap (λ (v : ℕ). 256 ^ v - 1) version in
-    let thin : activeCount (matrixOf b) j ≤ 12 = le-trans (le-of-eq (sym (length-active (matrixOf b) (ready-placed b start first after counts lists ready) j))) (ready .piled .few j (subst (λ (x : ℕ). j < x) (sym (columns-are b)) l)) in
-    le-trans (sums-bound (matrixOf b) (heaviest b) (block-light b bytes) (statedDivision a) j (statedHaplotypes a false j) (statedHaplotypes a true j))
-    (le-trans (mul-le-mul thin (le-of-eq light)) (omega arith))
+-- 1,024 reads of weight 255 at most
+pub weight-small : (b a tally : List ℕ) → StatedTally b a tally → (j : ℕ) → weightAt (matrixOf b) a j ≤ 261120
+weight-small b a tally told j =
+    let M = matrixOf b in
+    let few : count M ≤ 1024 = omega (arith, reads-are b, formed 1 b (told .good) .head .few-reads) in
+    let each : (r : ℕ) → r < count M → against (statedHaplotypes a (statedDivision a r) j) (at (read M r) j) ≤ 255 =
+    λ r l. le-trans (against-le (statedHaplotypes a (statedDivision a r) j) (at (read M r) j)) (told .light r j (omega (arith, reads-are b))) in
+    omega (arith, column-sides M (statedDivision a) j (λ s. statedHaplotypes a s j), sum-bound (count M) 255 each)
 
 -- the columns before j are weighed
 pub record WeighedTo (M : Matrix) (a : List ℕ) (m total j : ℕ) : Type 0 where
   pub inside : j ≤ m
   pub total-is : total ≡ sumTo j (weightAt M a)
-  pub small : total ≤ j * 3060
+  pub small : total ≤ j * 261120
 
 module _ (M : Matrix) (a : List ℕ) (m : ℕ) where
   pub weighed-none : WeighedTo M a m 0 0
   unfolding sumTo
   weighed-none = record { inside = zero-le; total-is = refl; small = zero-le }
 
-  module _ (total j : ℕ) (w : WeighedTo M a m total j) (l : j < m) (c : ColumnAt) (h : Stands M a j c) (light : weightAt M a j ≤ 3060)
+  module _ (total j : ℕ) (w : WeighedTo M a m total j) (l : j < m) (c : ColumnAt) (h : Stands M a j c) (light : weightAt M a j ≤ 261120)
       (x y : ℕ) (first : x ≡ againstOf (c .first)) (second : y ≡ againstOf (c .second)) where
     column-is : x + y ≡ weightAt M a j
     column-is = ap₂ _+_ (first ∙ against-at M a j false (c .first) (h .first-stands)) (second ∙ against-at M a j true (c .second) (h .second-stands))

@@ -3,7 +3,7 @@ use Prim.Native.Nat.{ℕ, _+_, _*_}
 use mathlib.Core.Path.{_≡_}
 use mathlib.Core.Bool.{Bool, true, false, cond, not, _&&_, _||_}
 use mathlib.Core.List.{List}
-use lib.ListN.{length}
+use lib.ListN.{length, take, drop}
 use lib.Dec.{ltb, eqb}
 use Rattle.meaning.specs.Numbers.{bit, anyTo}
 use Rattle.meaning.specs.Block.{Matrix}
@@ -11,6 +11,7 @@ use Rattle.meaning.specs.Division.{Side}
 use Rattle.meaning.specs.Charge.{W}
 use Rattle.meaning.specs.Letters.{general, reported}
 use Rattle.meaning.specs.Judge.{statedReads, statedColumns, statedDivision, statedLetter}
+use Rattle.tally.specs.Tally.{Tallied}
 use Rattle.verdict.specs.declared.SideAt.{SideAt}
 use Rattle.verdict.specs.declared.ColumnAt.{ColumnAt}
 
@@ -19,6 +20,10 @@ pub record Sized (a : List ℕ) (m n : ℕ) : Type 0 where
   pub reads : statedReads a ≡ n
   pub columns : statedColumns a ≡ m
   pub whole : length a ≡ 17 + n + 2 * m
+
+-- the tally of a block for the answer's sides
+abbrev pub StatedTally : List ℕ → List ℕ → List ℕ → Type 0
+StatedTally b a tally = Tallied b (take (statedReads a) (drop 17 a)) tally
 
 -- a side's sums at column j, by the answer's sides, and its letter there
 pub record StandsAt (M : Matrix) (a : List ℕ) (j : ℕ) (s : Side) (x : SideAt) : Type 0 where

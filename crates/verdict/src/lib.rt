@@ -1,20 +1,18 @@
 // A builder's answer, judged: the refusals 9 and 10 of its block, then, with the table filled, the first of the verdicts 50 to 57 that applies.
 ghost use mathlib.Core.Path.{_≡_};
 ghost use mathlib.Core.Bool.{false, true, not, _||_};
-ghost use Prim.Native.Nat.{_+_, _*_, _≤_, _<_, min};
+ghost use Prim.Native.Nat.{ℕ, _+_, _*_, _≤_, _<_, min};
 ghost use lib.Dec.{ltb, eqb};
 ghost use lib.ListN.{length, getD, replicate};
 ghost use Rattle.meaning.specs.Numbers.{anyTo};
 ghost use Rattle.meaning.specs.Block.{columnsField, readsField, matrixOf};
 ghost use Rattle.meaning.specs.Active.{used};
-ghost use Rattle.meaning.specs.Charge.{W};
 ghost use Rattle.meaning.specs.Letters.{disagreement};
 ghost use Rattle.meaning.specs.Judge.{statedReads, statedColumns, statedDivision, statedHaplotypes, malformed, unknownMark, falseDash, wrongCost, verdict, judging};
-ghost use Rattle.column.specs.Sums.{arrayOf};
 ghost use Rattle.meaning.specs.Refusals.{blockRefusal};
-ghost use Rattle.solve.specs.Ready.{Ready, Piling, ThinColumns};
+ghost use Rattle.solve.specs.Ready.{Piling, ThinColumns};
 ghost use Rattle.verdict.specs.Judgements.{judgementNumbers, judgedOf};
-ghost use Rattle.verdict.specs.Stated.{Sized, Stands, dashOf, againstOf, otherOf, otherLetters};
+ghost use Rattle.verdict.specs.Stated.{Sized, StatedTally, Stands, dashOf, againstOf, otherOf, otherLetters};
 ghost use Rattle.verdict.specs.Stages.{Filled, Counted, Marked, Least};
 
 // The refusals 9 with the column and 10 with the size needed, and the verdicts 50 to 57, 55 with the least cost.
@@ -42,12 +40,6 @@ pub struct SideAt {
 pub struct ColumnAt {
     pub first: SideAt,
     pub second: SideAt,
-}
-
-fn wide(x: u16) -> usize
-    ensures { λ r. ⌜ r ≡ x ⌝ }
-{
-    x as usize
 }
 
 // 50: fewer than 17 bytes, version not 2, or a length field that does not fit.
@@ -107,48 +99,13 @@ fn unknown_mark(answer: &[u8], m: usize, n: usize) -> bool
     any_above(&answer[a..e], 2)
 }
 
-// The four sums of column j by the builder's sides.
-fn sums_of(
-    block: &[u8],
-    start: &[u32],
-    first: &[u16],
-    end: &[u16],
-    count: &[u16],
-    lists: &[u16],
-    n: usize,
-    j: usize,
-    answer: &[u8],
-) -> [[u32; 2]; 2]
-    requires { ⌜ Ready (now block) (now start) (now first) (now end) (now count) (now lists) ⌝ }
-    requires { ⌜ (j < columnsField (now block)) × (n ≡ readsField (now block)) ⌝ }
-    requires { ⌜ (statedReads (now answer) ≡ n) × (17 + n ≤ length (now answer)) ⌝ }
-    ensures { λ r. ⌜ r ≡ arrayOf (W (matrixOf (now (block .entry))) (statedDivision (now (answer .entry))) j) ⌝ }
-{
-    let a = 12 * j;
-    let e = a + 12;
-    let p = wide(count[j]);
-    let z = 17 + n;
-    cells::sums_at(block, start, first, end, &lists[a..e], p, j, &answer[17..z])
-}
-
 // What the builder's answer has at column j.
-fn column_at(
-    block: &[u8],
-    start: &[u32],
-    first: &[u16],
-    end: &[u16],
-    count: &[u16],
-    lists: &[u16],
-    m: usize,
-    n: usize,
-    j: usize,
-    answer: &[u8],
-) -> ColumnAt
-    requires { ⌜ Ready (now block) (now start) (now first) (now end) (now count) (now lists) ⌝ }
+fn column_at(block: &[u8], m: usize, n: usize, j: usize, tally: &[u32], answer: &[u8]) -> ColumnAt
+    requires { ⌜ StatedTally (now block) (now answer) (now tally) ⌝ }
     requires { ⌜ (m ≡ columnsField (now block)) × (n ≡ readsField (now block)) × Sized (now answer) m n × (j < m) ⌝ }
     ensures { λ r. ⌜ Stands (matrixOf (now (block .entry))) (now (answer .entry)) j r ⌝ }
 {
-    let s = sums_of(block, start, first, end, count, lists, n, j, answer);
+    let s = tally::sums(tally, j);
     let x = answer[17 + n + j];
     let y = answer[17 + n + m + j];
     ColumnAt {
@@ -186,28 +143,18 @@ fn against(x: SideAt) -> u32
 fn other_letter(x: SideAt) -> bool
     ensures { λ r. ⌜ r ≡ otherOf x ⌝ }
 {
-    x.letter != cells::reported(x.w0, x.w1)
+    x.letter != tally::reported(x.w0, x.w1)
 }
 
 // 53: a `-` where that side's sums differ.
-fn false_dash(
-    block: &[u8],
-    start: &[u32],
-    first: &[u16],
-    end: &[u16],
-    count: &[u16],
-    lists: &[u16],
-    m: usize,
-    n: usize,
-    answer: &[u8],
-) -> bool
-    requires { ⌜ Ready (now block) (now start) (now first) (now end) (now count) (now lists) ⌝ }
+fn false_dash(block: &[u8], m: usize, n: usize, tally: &[u32], answer: &[u8]) -> bool
+    requires { ⌜ StatedTally (now block) (now answer) (now tally) ⌝ }
     requires { ⌜ (m ≡ columnsField (now block)) × (n ≡ readsField (now block)) × Sized (now answer) m n ⌝ }
     ensures { λ r. ⌜ r ≡ falseDash (matrixOf (now (block .entry))) (now (answer .entry)) ⌝ }
 {
     let mut j: usize = 0;
     while j < m {
-        let c = column_at(block, start, first, end, count, lists, m, n, j, answer);
+        let c = column_at(block, m, n, j, tally, answer);
         if dash(c.first) {
             return true;
         }
@@ -220,25 +167,15 @@ fn false_dash(
 }
 
 // The weight of the entries that disagree with the builder's haplotypes.
-fn weight(
-    block: &[u8],
-    start: &[u32],
-    first: &[u16],
-    end: &[u16],
-    count: &[u16],
-    lists: &[u16],
-    m: usize,
-    n: usize,
-    answer: &[u8],
-) -> u32
-    requires { ⌜ Ready (now block) (now start) (now first) (now end) (now count) (now lists) ⌝ }
+fn weight(block: &[u8], m: usize, n: usize, tally: &[u32], answer: &[u8]) -> u32
+    requires { ⌜ StatedTally (now block) (now answer) (now tally) ⌝ }
     requires { ⌜ (m ≡ columnsField (now block)) × (n ≡ readsField (now block)) × Sized (now answer) m n ⌝ }
     ensures { λ r. ⌜ r ≡ disagreement (matrixOf (now (block .entry))) (statedDivision (now (answer .entry))) (statedHaplotypes (now (answer .entry))) ⌝ }
 {
     let mut total: u32 = 0;
     let mut j: usize = 0;
     while j < m {
-        let c = column_at(block, start, first, end, count, lists, m, n, j, answer);
+        let c = column_at(block, m, n, j, tally, answer);
         total += against(c.first) + against(c.second);
         j += 1;
     }
@@ -246,22 +183,12 @@ fn weight(
 }
 
 // 54: the stated cost is not that weight.
-fn wrong_cost(
-    block: &[u8],
-    start: &[u32],
-    first: &[u16],
-    end: &[u16],
-    count: &[u16],
-    lists: &[u16],
-    m: usize,
-    n: usize,
-    answer: &[u8],
-) -> bool
-    requires { ⌜ Ready (now block) (now start) (now first) (now end) (now count) (now lists) ⌝ }
+fn wrong_cost(block: &[u8], m: usize, n: usize, tally: &[u32], answer: &[u8]) -> bool
+    requires { ⌜ StatedTally (now block) (now answer) (now tally) ⌝ }
     requires { ⌜ (m ≡ columnsField (now block)) × (n ≡ readsField (now block)) × Sized (now answer) m n ⌝ }
     ensures { λ r. ⌜ r ≡ wrongCost (matrixOf (now (block .entry))) (now (answer .entry)) ⌝ }
 {
-    let w = weight(block, start, first, end, count, lists, m, n, answer);
+    let w = weight(block, m, n, tally, answer);
     block::long_at(answer, 5) != w as usize
 }
 
@@ -281,24 +208,14 @@ fn other_sides(ours: &[u8], theirs: &[u8]) -> bool
 }
 
 // Some letter is not the one reported for the builder's sides.
-fn other_letters(
-    block: &[u8],
-    start: &[u32],
-    first: &[u16],
-    end: &[u16],
-    count: &[u16],
-    lists: &[u16],
-    m: usize,
-    n: usize,
-    answer: &[u8],
-) -> bool
-    requires { ⌜ Ready (now block) (now start) (now first) (now end) (now count) (now lists) ⌝ }
+fn other_letters(block: &[u8], m: usize, n: usize, tally: &[u32], answer: &[u8]) -> bool
+    requires { ⌜ StatedTally (now block) (now answer) (now tally) ⌝ }
     requires { ⌜ (m ≡ columnsField (now block)) × (n ≡ readsField (now block)) × Sized (now answer) m n ⌝ }
     ensures { λ r. ⌜ r ≡ otherLetters (matrixOf (now (block .entry))) (now (answer .entry)) ⌝ }
 {
     let mut j: usize = 0;
     while j < m {
-        let c = column_at(block, start, first, end, count, lists, m, n, j, answer);
+        let c = column_at(block, m, n, j, tally, answer);
         if other_letter(c.first) {
             return true;
         }
@@ -322,11 +239,13 @@ fn compared(
     n: usize,
     t: usize,
     work: &[u32],
+    tally: &[u32],
     answer: &[u8],
     sides: &mut [u8],
 ) -> Judgement
     requires { ⌜ Filled (now block) (now start) (now first) (now end) (now count) (now lists) m n t (now work) ⌝ }
     requires { ⌜ (n ≡ length (now sides)) × Sized (now answer) m n × Least (now block) (now answer) ⌝ }
+    requires { ⌜ StatedTally (now block) (now answer) (now tally) ⌝ }
     ensures { λ r. ⌜ judgementNumbers r ≡ verdict (now (block .entry)) (now (answer .entry)) ⌝ }
 {
     solve::write_sides(block, start, first, end, count, lists, m, t, work, sides);
@@ -334,7 +253,7 @@ fn compared(
     if other_sides(sides, &answer[17..e]) {
         return Judgement::OtherAnswer;
     }
-    if other_letters(block, start, first, end, count, lists, m, n, answer) {
+    if other_letters(block, m, n, tally, answer) {
         return Judgement::OtherAnswer;
     }
     Judgement::Ours
@@ -352,14 +271,16 @@ fn weighed(
     n: usize,
     t: usize,
     work: &[u32],
+    tally: &[u32],
     answer: &[u8],
     sides: &mut [u8],
 ) -> Judgement
     requires { ⌜ Filled (now block) (now start) (now first) (now end) (now count) (now lists) m n t (now work) ⌝ }
     requires { ⌜ (n ≡ length (now sides)) × Sized (now answer) m n × Marked (now block) (now answer) ⌝ }
+    requires { ⌜ StatedTally (now block) (now answer) (now tally) ⌝ }
     ensures { λ r. ⌜ judgementNumbers r ≡ verdict (now (block .entry)) (now (answer .entry)) ⌝ }
 {
-    if wrong_cost(block, start, first, end, count, lists, m, n, answer) {
+    if wrong_cost(block, m, n, tally, answer) {
         return Judgement::WrongCost;
     }
     let least = solve::least_last(block, start, first, end, count, lists, m, t, work);
@@ -377,12 +298,13 @@ fn weighed(
         n,
         t,
         work,
+        tally,
         answer,
         sides,
     )
 }
 
-// 52 and 53, then the rest: sides and letters.
+// 52 and 53, then the rest: sides and letters. The builder's sides are tallied here, once for all that follows.
 fn marked(
     block: &[u8],
     start: &[u32],
@@ -394,17 +316,21 @@ fn marked(
     n: usize,
     t: usize,
     work: &[u32],
+    tally: &mut [u32],
     answer: &[u8],
     sides: &mut [u8],
 ) -> Judgement
     requires { ⌜ Filled (now block) (now start) (now first) (now end) (now count) (now lists) m n t (now work) ⌝ }
     requires { ⌜ (n ≡ length (now sides)) × Sized (now answer) m n × Counted (now block) (now answer) ⌝ }
+    requires { ⌜ (4 * m ≤ length (now tally)) × ((k : ℕ) → getD (now tally) k 0 ≡ 0) ⌝ }
     ensures { λ r. ⌜ judgementNumbers r ≡ verdict (now (block .entry)) (now (answer .entry)) ⌝ }
 {
     if unknown_mark(answer, m, n) {
         return Judgement::UnknownMark;
     }
-    if false_dash(block, start, first, end, count, lists, m, n, answer) {
+    let e = 17 + n;
+    tally::tally(block, start, first, end, n, &answer[17..e], tally);
+    if false_dash(block, m, n, tally, answer) {
         return Judgement::FalseDash;
     }
     weighed(
@@ -418,12 +344,13 @@ fn marked(
         n,
         t,
         work,
+        tally,
         answer,
         sides,
     )
 }
 
-// The first verdict that applies, for a block whose table is filled. The bytes of `sides` are room to work in.
+// The first verdict that applies, for a block whose table is filled. `tally`, all zeros, and `sides` are room to work in.
 pub fn judged(
     block: &[u8],
     start: &[u32],
@@ -435,11 +362,13 @@ pub fn judged(
     n: usize,
     t: usize,
     work: &[u32],
+    tally: &mut [u32],
     answer: &[u8],
     sides: &mut [u8],
 ) -> Judgement
     requires { ⌜ Filled (now block) (now start) (now first) (now end) (now count) (now lists) m n t (now work) ⌝ }
     requires { ⌜ n ≤ length (now sides) ⌝ }
+    requires { ⌜ (4 * m ≤ length (now tally)) × ((k : ℕ) → getD (now tally) k 0 ≡ 0) ⌝ }
     ensures { λ r. ⌜ judgementNumbers r ≡ verdict (now (block .entry)) (now (answer .entry)) ⌝ }
 {
     if malformed(answer) {
@@ -459,6 +388,7 @@ pub fn judged(
         n,
         t,
         work,
+        tally,
         answer,
         &mut sides[0..n],
     )
@@ -477,12 +407,14 @@ fn sized(
     t: usize,
     taken: &mut [u32],
     work: &mut [u32],
+    tally: &mut [u32],
     answer: &[u8],
     sides: &mut [u8],
 ) -> Judgement
     requires { ⌜ Piling (now block) (now start) (now first) (now end) (now count) m n ⌝ }
     requires { ⌜ ThinColumns (now block) t ⌝ }
     requires { ⌜ (12 * m ≤ length (now lists)) × (used (min n 12) ≤ length (now taken)) × (n ≤ length (now sides)) ⌝ }
+    requires { ⌜ (4 * m ≤ length (now tally)) × ((k : ℕ) → getD (now tally) k 0 ≡ 0) ⌝ }
     ensures { λ r. ⌜ judgedOf r (now (work .exit)) ≡ judging (now (block .entry)) (now (answer .entry)) (now (work .entry)) ⌝ }
 {
     let need = m * t;
@@ -501,12 +433,13 @@ fn sized(
         n,
         t,
         work,
+        tally,
         answer,
         sides,
     )
 }
 
-// Judges an answer to a block that passes the checks 1 to 8. The arrays are room to work in, as for `solve`; `sides` is one more.
+// Judges an answer to a block that passes the checks 1 to 8. The arrays are room to work in, as for `solve`; `tally`, all zeros, and `sides` are two more.
 pub fn judge(
     block: &[u8],
     m: usize,
@@ -519,12 +452,14 @@ pub fn judge(
     count: &mut [u16],
     lists: &mut [u16],
     taken: &mut [u32],
+    tally: &mut [u32],
     sides: &mut [u8],
 ) -> Judgement
     requires { ⌜ (blockRefusal 1 (now block) .number ≡ 0) × (m ≡ columnsField (now block)) × (n ≡ readsField (now block)) ⌝ }
     requires { ⌜ (n ≤ length (now start)) × (n ≤ length (now first)) × (n ≤ length (now end)) ⌝ }
     requires { ⌜ (m ≤ length (now count)) × (12 * m ≤ length (now lists)) × (used (min n 12) ≤ length (now taken)) × (n ≤ length (now sides)) ⌝ }
     requires { ⌜ now count ≡ replicate (length (now count)) 0 ⌝ }
+    requires { ⌜ (4 * m ≤ length (now tally)) × ((k : ℕ) → getD (now tally) k 0 ≡ 0) ⌝ }
     ensures { λ r. ⌜ judgedOf r (now (work .exit)) ≡ judging (now (block .entry)) (now (answer .entry)) (now (work .entry)) ⌝ }
 {
     let c = solve::piled(block, m, n, start, first, end, count);
@@ -542,6 +477,7 @@ pub fn judge(
             t,
             taken,
             work,
+            tally,
             answer,
             sides,
         ),

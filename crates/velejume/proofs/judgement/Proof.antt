@@ -1,6 +1,6 @@
 use native.Mathlib.Omega.{arith}
 use mathlib.Core.Path.{refl}
-use Rattle.velejume.proofs.Laws.{any-reads-room}
+use Rattle.velejume.proofs.Laws.{any-reads-room, zeros}
 use borrow.Author.Needs.{needs}
 use Rattle.velejume.proofs.judgement.Statement.{statement}
 use Rattle.velejume.proofs.judgement.Tie as tie
@@ -26,12 +26,15 @@ slice-aggregate-judge-6 c = search needs
 slice-aggregate-judge-7 : tie.Need-slice-aggregate-judge-7
 slice-aggregate-judge-7 c = search needs
 
+slice-aggregate-judge-8 : tie.Need-slice-aggregate-judge-8
+slice-aggregate-judge-8 c = search needs
+
 judge-requires : tie.Need-judge-requires
 judge-requires c κs =
-    let s = c .before .before .before .before .before .before .before .before .before .before .before in
+    let s = c .before .before .before .before .before .before .before .before .before .before .before .before in
     let m = s .pre .1 .0 in
     let n = s .pre .1 .1 in
-    (s .pre .0, ((omega arith, omega arith, omega arith), ((omega arith, omega arith, any-reads-room (s .args .n), omega arith), refl)))
+    (s .pre .0, ((omega arith, omega arith, omega arith), ((omega arith, omega arith, any-reads-room (s .args .n), omega arith), (refl, (omega arith, zeros 4096)))))
 
 same-length : tie.Need-same-length
 same-length c = search needs
@@ -50,6 +53,7 @@ judgement-spec =
     slice-aggregate-judge-5
     slice-aggregate-judge-6
     slice-aggregate-judge-7
+    slice-aggregate-judge-8
     judge-requires
     same-length
     returns)

@@ -1,12 +1,9 @@
 use native.Mathlib.Omega.{arith}
 use mathlib.Core.Path.{refl}
-use Rattle.velejume.proofs.Laws.{few-reads-room}
+use Rattle.velejume.proofs.Laws.{few-reads-room, zeros}
 use borrow.Author.Needs.{needs}
 use Rattle.velejume.proofs.small.Statement.{statement}
 use Rattle.velejume.proofs.small.Tie as tie
-use Rattle.velejume.proofs.small.Reads as reads
-use Rattle.velejume.proofs.small.Lts as lts
-use Rattle.solve.proofs.solve.Reads as solve-reads
 
 slice-aggregate-solve : tie.Need-slice-aggregate-solve
 slice-aggregate-solve c = search needs
@@ -26,12 +23,15 @@ slice-aggregate-solve-5 c = search needs
 slice-aggregate-solve-6 : tie.Need-slice-aggregate-solve-6
 slice-aggregate-solve-6 c = search needs
 
+slice-aggregate-solve-7 : tie.Need-slice-aggregate-solve-7
+slice-aggregate-solve-7 c = search needs
+
 solve-requires : tie.Need-solve-requires
 solve-requires c κs =
-    let s = c .before .before .before .before .before .before .before .before .before .before .before in
+    let s = c .before .before .before .before .before .before .before .before .before .before .before .before in
     let m = s .pre .1 .0 in
     let n = s .pre .1 .1 in
-    (s .pre .0, ((omega arith, omega arith, omega arith), ((omega arith, omega arith, few-reads-room (s .args .n) (s .pre .1 .1)), refl)))
+    (s .pre .0, ((omega arith, omega arith, omega arith), ((omega arith, omega arith, few-reads-room (s .args .n) (s .pre .1 .1)), (refl, (omega arith, zeros 128)))))
 
 same-length : tie.Need-same-length
 same-length c = search needs
@@ -52,6 +52,7 @@ small-spec =
     slice-aggregate-solve-4
     slice-aggregate-solve-5
     slice-aggregate-solve-6
+    slice-aggregate-solve-7
     solve-requires
     same-length
     same-length-2

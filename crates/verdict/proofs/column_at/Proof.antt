@@ -4,8 +4,8 @@ use borrow.Author.Needs.{needs}
 use Rattle.verdict.proofs.column_at.Statement.{statement}
 use Rattle.verdict.proofs.column_at.Tie as tie
 
-sums-of-requires : tie.Need-sums-of-requires
-sums-of-requires c κs = let s = c .before .before .before .before .before .before .before in (s .pre .0, ((omega arith, s .pre .1 .1), (s .pre .1 .2 .reads, omega (arith, s .pre .1 .2 .whole))))
+sums-requires : tie.Need-sums-requires
+sums-requires c κs = omega (arith, c .before .before .before .pre .0 .room)
 
 add-x : tie.Need-add-x
 add-x c = search needs
@@ -28,38 +28,38 @@ add-y-3 c = search needs
 shared-slice-read-y : tie.Need-shared-slice-read-y
 shared-slice-read-y c = search needs
 
-index-1-t25 : tie.Need-index-1-t25
-index-1-t25 c = search needs
+index-1-t21 : tie.Need-index-1-t21
+index-1-t21 c = search needs
 
-index-2-t25 : tie.Need-index-2-t25
-index-2-t25 c = search needs
+index-2-t21 : tie.Need-index-2-t21
+index-2-t21 c = search needs
 
-index-1-t30 : tie.Need-index-1-t30
-index-1-t30 c = search needs
+index-1-t26 : tie.Need-index-1-t26
+index-1-t26 c = search needs
 
-index-2-t30 : tie.Need-index-2-t30
-index-2-t30 c = search needs
+index-2-t26 : tie.Need-index-2-t26
+index-2-t26 c = search needs
 
-index-1-t36 : tie.Need-index-1-t36
-index-1-t36 c = search needs
+index-1-t32 : tie.Need-index-1-t32
+index-1-t32 c = search needs
 
-index-2-t36 : tie.Need-index-2-t36
-index-2-t36 c = search needs
+index-2-t32 : tie.Need-index-2-t32
+index-2-t32 c = search needs
 
-index-1-t41 : tie.Need-index-1-t41
-index-1-t41 c = search needs
+index-1-t37 : tie.Need-index-1-t37
+index-1-t37 c = search needs
 
-index-2-t41 : tie.Need-index-2-t41
-index-2-t41 c = search needs
+index-2-t37 : tie.Need-index-2-t37
+index-2-t37 c = search needs
 
 returns : tie.Need-returns
-returns c = let s = c .before .before .before .before .before .before .before .before .before .before .before .before .before .before in stands _ (s .args .answer .now) (s .args .m) (s .args .n) (s .args .j) _ (s .pre .1 .2) (c .before .before .before .before .before .before .sums-of .ensures)
+returns c = let s = c .before .before .before .before .before .before .before .before .before .before in stands _ (s .args .answer .now) (s .args .m) (s .args .n) (s .args .j) _ (s .pre .1 .2) (c .before .before .before .before .before .before .sums .ensures _ _ (s .pre .0) (omega arith))
 
 pub column-at-spec : {M : Type 1} → statement M
 column-at-spec =
     tie.close
     (tie.spec
-    sums-of-requires
+    sums-requires
     add-x
     add-x-2
     shared-slice-read-x
@@ -67,12 +67,12 @@ column-at-spec =
     add-y-2
     add-y-3
     shared-slice-read-y
-    index-1-t25
-    index-2-t25
-    index-1-t30
-    index-2-t30
-    index-1-t36
-    index-2-t36
-    index-1-t41
-    index-2-t41
+    index-1-t21
+    index-2-t21
+    index-1-t26
+    index-2-t26
+    index-1-t32
+    index-2-t32
+    index-1-t37
+    index-2-t37
     returns)

@@ -11,10 +11,10 @@ use Rattle.verdict.proofs.false_dash.Statement.{statement}
 use Rattle.verdict.proofs.false_dash.Tie as tie
 
 abbrev Inv-loop : tie.InvT-loop
-Inv-loop block start first end count lists m n answer j₀ j = Searched m (eitherSide (falseDashAt (matrixOf block) answer)) j
+Inv-loop block m n tally answer j₀ j = Searched m (eitherSide (falseDashAt (matrixOf block) answer)) j
 
 abbrev μ-loop : tie.MeasureT-loop
-μ-loop block start first end count lists m n answer j₀ j = m - j
+μ-loop block m n tally answer j₀ j = m - j
 
 loop-holds : tie.Need-loop-holds Inv-loop μ-loop
 loop-holds c = searched-none _ _
@@ -27,7 +27,7 @@ dash-requires c κs = search needs
 
 returns : tie.Need-returns Inv-loop μ-loop
 returns c =
-    let s = c .before .before .before .before .before .before .before .before .before .before .before .before in
+    let s = c .before .before .before .before .before .before .before .before in
     let M = matrixOf (s .args .block .now) in
     let a = s .args .answer .now in
     let w = c .before .before in
@@ -39,7 +39,7 @@ dash-requires-2 c κs = search needs
 
 returns-2 : tie.Need-returns-2 Inv-loop μ-loop
 returns-2 c =
-    let s = c .before .before .before .before .before .before .before .before .before .before .before .before .before .before in
+    let s = c .before .before .before .before .before .before .before .before .before .before in
     let M = matrixOf (s .args .block .now) in
     let a = s .args .answer .now in
     let d = c .before .before .before in
@@ -55,7 +55,7 @@ loop-less c = search needs
 
 loop-again : tie.Need-loop-again Inv-loop μ-loop
 loop-again c =
-    let s = c .before .before .before .before .before .before .before .before .before .before .before .before .before .before in
+    let s = c .before .before .before .before .before .before .before .before .before .before in
     let M = matrixOf (s .args .block .now) in
     let a = s .args .answer .now in
     let d = c .before .before .before in
@@ -64,7 +64,7 @@ loop-again c =
 
 returns-3 : tie.Need-returns-3 Inv-loop μ-loop
 returns-3 c =
-    let s = c .before .before .before .before .before .before .before .before .before in
+    let s = c .before .before .before .before .before in
     searched-all _ _ (c .before .loop .j) (c .before .loop .inv) (c .loop-test .left) ∙ dash-columns (matrixOf (s .args .block .now)) (s .args .answer .now) (s .args .m) (s .pre .1 .0 ∙ sym (columns-are (s .args .block .now)))
 
 pub false-dash-spec : {M : Type 1} → statement M

@@ -6,7 +6,7 @@ use Rattle.verdict.proofs.judge.Statement.{statement}
 use Rattle.verdict.proofs.judge.Tie as tie
 
 piled-requires : tie.Need-piled-requires
-piled-requires c κs = let s = c .before .before .before .before .before .before .before .before .before .before .before .before .before .before in (s .pre .0, (s .pre .1 .0, (s .pre .1 .1 .0 .0, s .pre .1 .1 .1)))
+piled-requires c κs = let s = c .before .before .before .before .before .before .before .before .before .before .before .before .before .before .before in (s .pre .0, (s .pre .1 .0, (s .pre .1 .1 .0 .0, s .pre .1 .1 .1 .0)))
 
 enum-known-c : tie.Need-enum-known-c
 enum-known-c c = search needs
@@ -16,9 +16,9 @@ enum-known-c-2 c = search needs
 
 sized-requires : tie.Need-sized-requires
 sized-requires c κs =
-    let q = c .before .before .before .before .before .before .before .before .before .before .before .before .before .before .before .before .before .before .before in
-    let s = q .before .before .before .before .before .before .before .before .before .before .before .before .before .before .before in
-    (q .piled .ensures .0, (subst (ColumnsFound (s .args .block .now)) (c .before .before .before .before .before .before .before .before .before .c2 .given .1) (q .piled .ensures .1), (s .pre .1 .1 .0 .1, s .pre .1 .1 .0 .2, s .pre .1 .1 .0 .3)))
+    let q = c .before .before .before .before .before .before .before .before .before .before .before .before .before .before .before .before .before .before .before .before in
+    let s = q .before .before .before .before .before .before .before .before .before .before .before .before .before .before .before .before in
+    (q .piled .ensures .0, (subst (ColumnsFound (s .args .block .now)) (c .before .before .before .before .before .before .before .before .before .before .c2 .given .1) (q .piled .ensures .1), ((s .pre .1 .1 .0 .1, s .pre .1 .1 .0 .2, s .pre .1 .1 .0 .3), s .pre .1 .1 .1 .1)))
 
 same-length : tie.Need-same-length
 same-length c = search needs
@@ -35,7 +35,7 @@ same-length-4 c = search needs
 returns : tie.Need-returns
 returns c =
     let q = c .before .before .before .before .before .before .before .before .before .before .before in
-    let s = q .before .before .before .before .before .before .before .before .before .before .before .before .before .before .before in
+    let s = q .before .before .before .before .before .before .before .before .before .before .before .before .before .before .before .before in
     crowded-judging (s .args .block .now) (s .args .answer .now) (s .args .work .now) (s .pre .0 .0) (c .before .c .given .0 .0) (subst (ColumnsFound (s .args .block .now)) (c .before .c .given .1) (q .piled .ensures .1))
 
 same-length-5 : tie.Need-same-length-5
@@ -62,6 +62,9 @@ same-length-11 c = search needs
 same-length-12 : tie.Need-same-length-12
 same-length-12 c = search needs
 
+same-length-13 : tie.Need-same-length-13
+same-length-13 c = search needs
+
 returns-2 : tie.Need-returns-2
 returns-2 c = search needs
 
@@ -86,4 +89,5 @@ judge-spec =
     same-length-10
     same-length-11
     same-length-12
+    same-length-13
     returns-2)

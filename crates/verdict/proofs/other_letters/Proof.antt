@@ -10,10 +10,10 @@ use Rattle.verdict.proofs.other_letters.Statement.{statement}
 use Rattle.verdict.proofs.other_letters.Tie as tie
 
 abbrev Inv-loop : tie.InvT-loop
-Inv-loop block start first end count lists m n answer j₀ j = Searched m (eitherSide (otherLetterAt (matrixOf block) answer)) j
+Inv-loop block m n tally answer j₀ j = Searched m (eitherSide (otherLetterAt (matrixOf block) answer)) j
 
 abbrev μ-loop : tie.MeasureT-loop
-μ-loop block start first end count lists m n answer j₀ j = m - j
+μ-loop block m n tally answer j₀ j = m - j
 
 loop-holds : tie.Need-loop-holds Inv-loop μ-loop
 loop-holds c = searched-none _ _
@@ -26,7 +26,7 @@ other-letter-requires c κs = search needs
 
 returns : tie.Need-returns Inv-loop μ-loop
 returns c =
-    let s = c .before .before .before .before .before .before .before .before .before .before .before .before in
+    let s = c .before .before .before .before .before .before .before .before in
     let M = matrixOf (s .args .block .now) in
     let a = s .args .answer .now in
     let w = c .before .before in
@@ -38,7 +38,7 @@ other-letter-requires-2 c κs = search needs
 
 returns-2 : tie.Need-returns-2 Inv-loop μ-loop
 returns-2 c =
-    let s = c .before .before .before .before .before .before .before .before .before .before .before .before .before .before in
+    let s = c .before .before .before .before .before .before .before .before .before .before in
     let M = matrixOf (s .args .block .now) in
     let a = s .args .answer .now in
     let d = c .before .before .before in
@@ -54,7 +54,7 @@ loop-less c = search needs
 
 loop-again : tie.Need-loop-again Inv-loop μ-loop
 loop-again c =
-    let s = c .before .before .before .before .before .before .before .before .before .before .before .before .before .before in
+    let s = c .before .before .before .before .before .before .before .before .before .before in
     let M = matrixOf (s .args .block .now) in
     let a = s .args .answer .now in
     let d = c .before .before .before in
@@ -63,7 +63,7 @@ loop-again c =
 
 returns-3 : tie.Need-returns-3 Inv-loop μ-loop
 returns-3 c =
-    let s = c .before .before .before .before .before .before .before .before .before in
+    let s = c .before .before .before .before .before in
     searched-all _ _ (c .before .loop .j) (c .before .loop .inv) (c .loop-test .left) ∙ other-columns (matrixOf (s .args .block .now)) (s .args .answer .now) (s .args .m) (s .pre .1 .0 ∙ sym (columns-are (s .args .block .now)))
 
 pub other-letters-spec : {M : Type 1} → statement M

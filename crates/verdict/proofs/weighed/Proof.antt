@@ -23,7 +23,7 @@ returns-2 : tie.Need-returns-2
 returns-2 c = search (needs, gives-55, least-cost)
 
 compared-requires : tie.Need-compared-requires
-compared-requires c κs = (search needs, (search needs, search needs, search (needs, is-least, least-cost)))
+compared-requires c κs = (search needs, ((search needs, search needs, search (needs, is-least, least-cost)), search needs))
 
 same-length : tie.Need-same-length
 same-length c = search needs

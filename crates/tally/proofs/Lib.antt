@@ -1,0 +1,4 @@
+pub mod Turns
+pub mod Walk
+pub mod Parts
+pub mod Sides

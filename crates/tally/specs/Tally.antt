@@ -1,0 +1,54 @@
+-- The tally of a block: for each column, side and letter how many entries it has, and their weight.
+use Prim.Native.Nat.{ℕ, _+_, _*_, _≤_, _<_}
+use mathlib.Core.Bool.{true, false, cond, Bool·beq}
+use mathlib.Core.List.{List}
+use mathlib.Core.Path.{_≡_}
+use lib.Dec.{eqb}
+use lib.ListN.{length, getD}
+use Rattle.meaning.specs.Numbers.{bit, sumTo, run}
+use Rattle.meaning.specs.Block.{Cell, Read, Matrix, columnsField, readsField, cellAt, matrixOf}
+use Rattle.meaning.specs.Active.{count, read, at}
+use Rattle.meaning.specs.Division.{Side, Division}
+use Rattle.meaning.specs.Charge.{Letter, W}
+use Rattle.meaning.specs.Letters.{general, reported, haplotypes, isFlip}
+use Rattle.meaning.specs.Answer.{divisionOf}
+use Rattle.meaning.specs.Refusals.{blockRefusal}
+use Rattle.tally.specs.declared.Letters.{Letters}
+
+-- 2^18, above the weight of any 1,024 cells
+abbrev pub unit : ℕ
+unit = 262144
+
+-- what a cell adds to the tally of letter l: if that is its letter, one entry and its weight
+unfoldable pub tallyOf : Letter → Cell → ℕ
+tallyOf l c = cond (eqb (c .letter) (bit l)) (unit + c .weight) 0
+
+-- what the first r reads add to the tally of side s and letter l at column j
+unfoldable pub talliedTo : Matrix → Division → ℕ → ℕ → Side → Letter → ℕ
+talliedTo M d r j s l = sumTo r (λ q. cond (Bool·beq (d q) s) (tallyOf l (at (read M q) j)) 0)
+
+-- where it stands
+abbrev pub place : ℕ → Side → Letter → ℕ
+place j s l = 4 * j + 2 * bit s + bit l
+
+-- the tally of a block, whose weights are bytes, for sides
+pub record Tallied (b sides tally : List ℕ) : Type 0 where
+  pub good : blockRefusal 1 b .number ≡ 0
+  pub light : (r j : ℕ) → r < readsField b → at (read (matrixOf b) r) j .weight ≤ 255
+  pub room : 4 * columnsField b ≤ length tally
+  pub each : (j : ℕ) → j < columnsField b → (s : Side) (l : Letter) → getD tally (place j s l) 0 ≡ talliedTo (matrixOf b) (divisionOf sides) (readsField b) j s l
+
+-- a read by its first column and the first n cells of its part of the block
+abbrev pub readFrom : ℕ → ℕ → List ℕ → Read
+readFrom from n cells = record { first = from; cells = run 0 n (cellAt 2 cells) }
+
+-- one read more, on a side
+abbrev pub ReadAdded : Read → Side → List ℕ → List ℕ → Type 0
+ReadAdded x side old new = (j : ℕ) (s : Side) (l : Letter) → getD new (place j s l) 0 ≡ getD old (place j s l) 0 + cond (Bool·beq side s) (tallyOf l (at x j)) 0
+
+-- the letters that are reported of column j, and the flips against its letters, for a division
+pub record Lettered (M : Matrix) (d : Division) (j : ℕ) (r : Letters) : Type 0 where
+  pub first-is : r .first ≡ reported general (W M d j) false
+  pub second-is : r .second ≡ reported general (W M d j) true
+  pub flips-are : r .flips ≡ sumTo (count M) (λ q. bit (isFlip (haplotypes general M d (d q) j) (at (read M q) j)))
+  pub flips-few : r .flips ≤ 1024

@@ -11,6 +11,8 @@ PREFIX ?= /usr/local
 SEED ?= 1
 COUNT ?= 100000
 
+# what the Rust programs link: the shipped archive, or the same library for another processor
+linked := target/$(if $(filter x86_64,$(shell uname -m)),staticlib,native)/libvelejume.a
 sources := $(shell find crates -path '*/must-fail' -prune -o -type f -print) crates.txt
 
 test:
@@ -22,7 +24,7 @@ run: target/bin/phase
 judge: target/bin/judge
 	@scripts/run target/bin/judge '$(BLOCK)' '$(ANSWER)'
 
-corpus: lib
+corpus: $(linked)
 	@cargo run --quiet --release --offline --manifest-path rust/Cargo.toml --bin corpus -- '$(FOLDER)'
 
 lib: target/staticlib/libvelejume.a
@@ -37,10 +39,10 @@ install: target/bin/phase target/bin/judge target/staticlib/libvelejume.a
 	@mkdir -p '$(DESTDIR)$(PREFIX)/lib/pkgconfig'
 	@sed 's|@PREFIX@|$(PREFIX)|' velejume.pc.in > '$(DESTDIR)$(PREFIX)/lib/pkgconfig/velejume.pc'
 
-bench: lib
+bench: $(linked)
 	@cd rust && cargo run --quiet --profile timed --offline --bin bench
 
-soak: lib
+soak: $(linked)
 	@cd rust && cargo run --quiet --release --offline --bin soak -- $(SEED) $(COUNT)
 
 target/bin/phase target/bin/judge: target/bin/%: $(sources)
@@ -52,3 +54,7 @@ target/staticlib/libvelejume.a: $(sources)
 	@echo 'proving and building the library (some minutes the first time)' >&2
 	@scripts/quietly rt staticlib velejume
 	@touch target/staticlib/libvelejume.a
+
+target/native/libvelejume.a: $(sources)
+	@echo 'proving and building the library for this processor (some minutes the first time)' >&2
+	@scripts/quietly scripts/native

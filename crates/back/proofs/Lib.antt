@@ -1,3 +1,4 @@
 pub mod Rows
 pub mod Classes
 pub mod Settled
+pub mod GoingOn

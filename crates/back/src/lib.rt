@@ -32,23 +32,23 @@ pub fn least_from(col: &[u32], from: usize, step: usize) -> u32
     least
 }
 
-// How many of the first p reads of the list go on after column j: their last cell is not in it.
+// How many of the first p reads of the list go on after column j: their last cell is not in it. Those that close there stand behind them.
 pub fn going_on(list: &[u16], p: usize, end: &[u16], j: usize) -> usize
     requires { ⌜ (p ≤ 12) × (p ≤ length (now list)) × (j < 1024) ⌝ }
     requires { ⌜ ((i : ℕ) → i < p → getD (now list) i 0 < length (now end)) ⌝ }
+    requires { ⌜ ((i : ℕ) → i + 1 < p → getD (now end) (getD (now list) i 0) 0 ≡ j + 1 → getD (now end) (getD (now list) (i + 1) 0) 0 ≡ j + 1) ⌝ }
     ensures { λ r. ⌜ r ≡ sumTo p (λ i. bit (not (eqb (getD (now (end .entry)) (getD (now (list .entry)) i 0) 0) (j + 1)))) ⌝ }
 {
     let after = j + 1;
-    let mut count: usize = 0;
-    let mut i: usize = 0;
-    while i < p {
-        let e = fold::of_read(end, list, i);
+    let mut i = p;
+    while i > 0 {
+        let e = fold::of_read(end, list, i - 1);
         if e != after {
-            count += 1;
+            return i;
         }
-        i += 1;
+        i -= 1;
     }
-    count
+    0
 }
 
 // The side of the i-th read of the list.

@@ -9,7 +9,7 @@ use lib.Seq.{getD-set-same, getD-set-other, ext-getD}
 use mathlib.Core.Bool.{Bool, true, false, cond, _&&_, _||_}
 use mathlib.Core.List.{List, [], _∷_}
 use mathlib.Core.Logic.{_≢_}
-use mathlib.Core.Path.{_≡_, refl, sym, ap, ap₂, _∙_}
+use mathlib.Core.Path.{_≡_, refl, sym, ap, ap₂, _∙_, subst}
 use native.Mathlib.Nat.{mul-le-mul-left, one-mul, lt-of-mul-lt-mul-right, le-antisymm, le-of-mul-le-mul-right, mul-comm, add-zero, zero-add}
 use native.Mathlib.Numerals.{add-one}
 use native.Mathlib.Omega.{arith}
@@ -122,6 +122,12 @@ pub first-fits : (classes rows n : ℕ) → 0 < n → classes * rows ≡ n → c
 first-fits classes zero n h e = absurd (let z : classes * 0 ≡ n = e in omega arith)
 first-fits classes (suc rows) n h e = omega arith
 
+-- not one row only: two at least
+pub second-fits : (classes rows n : ℕ) → 0 < n → classes * rows ≡ n → n ≢ classes → 2 * classes ≤ n
+second-fits classes zero n h e ne = absurd (let z : classes * 0 ≡ n = e in omega arith)
+second-fits classes (suc zero) n h e ne = absurd (let z : classes * 1 ≡ n = e in omega arith)
+second-fits classes (suc (suc rows)) n h e ne = omega arith
+
 module _ (part : List ℕ) (classes : ℕ) where
   pub carried-first : (taken : List ℕ) → ((f : ℕ) → f < classes → getD taken f 0 ≡ getD part f 0) → Carried part classes classes taken
   unfolding leastAt minTo
@@ -146,6 +152,13 @@ module _ (part : List ℕ) (classes : ℕ) where
         base-is = omega (arith, c .base-is);
         lows = λ f l. h f l ∙ ap (λ (x : ℕ). min x (getD part (base + f) 0)) (c .lows f l) ∙ least-more (c .rows) base f (c .some) (c .base-is);
       }
+
+  -- the first two rows at once
+  pub carried-two : (taken : List ℕ) → ((f : ℕ) → f < classes → getD taken f 0 ≡ min (getD part f 0) (getD part (classes + f) 0)) → Carried part classes (2 * classes) taken
+  carried-two taken h = subst (λ (base : ℕ). Carried part classes base taken) (twice classes) (carried-more classes part taken (carried-first part (λ f l. refl)) h)
+    where
+      twice : (n : ℕ) → n + n ≡ 2 * n
+      twice n = omega arith
 
   -- no row is left
   pub carried-all : (rows base : ℕ) (taken : List ℕ) → 0 < classes → classes * rows ≡ length part → Carried part classes base taken → base ≤ length part → length part < base + classes

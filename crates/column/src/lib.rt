@@ -227,6 +227,18 @@ fn first_row(part: &[u32], classes: usize, taken: &mut [u32])
     }
 }
 
+// The first two rows of the classes: each class has the lesser.
+fn first_rows(part: &[u32], classes: usize, taken: &mut [u32])
+    requires { ⌜ (2 * classes ≤ length (now part)) × (classes ≤ length (now taken)) ⌝ }
+    ensures { λ _. ⌜ ((f : ℕ) → f < classes → getD (now (taken .exit)) f 0 ≡ min (getD (now (part .entry)) f 0) (getD (now (part .entry)) (classes + f) 0)) ⌝ }
+{
+    let mut f: usize = 0;
+    while f < classes {
+        taken[f] = least(part[f], part[classes + f]);
+        f += 1;
+    }
+}
+
 // The row that starts at `base`: each class keeps the lesser.
 fn next_row(part: &[u32], base: usize, classes: usize, taken: &mut [u32])
     requires { ⌜ (base + classes ≤ length (now part)) × (classes ≤ length (now taken)) ⌝ }
@@ -245,9 +257,13 @@ pub fn carry(part: &[u32], classes: usize, taken: &mut [u32])
     requires { ⌜ (0 < length (now part)) × (classes * (length (now part) / classes) ≡ length (now part)) ⌝ }
     ensures { λ _. ⌜ ((f : ℕ) → f < classes → getD (now (taken .exit)) f 0 ≡ leastAt classes (length (now (part .entry)) / classes) (now (part .entry)) f) ⌝ }
 {
-    first_row(part, classes, taken);
+    if part.len() == classes {
+        first_row(part, classes, taken);
+        return;
+    }
+    first_rows(part, classes, taken);
     let last = part.len() - classes;
-    let mut base = classes;
+    let mut base = 2 * classes;
     while base <= last {
         next_row(part, base, classes, taken);
         base += classes;

@@ -1,8 +1,9 @@
 -- One column of the way back, said of the definitions with the code's own terms.
-use Prim.Native.Nat.{ℕ, suc, _+_, _-_, _*_, _≤_, _<_}
+use Prim.Native.Nat.{ℕ, zero, suc, _+_, _-_, _*_, _≤_, _<_}
 use mathlib.Core.Path.{_≡_, refl, sym, ap, ap₂, _∙_, subst, fun-ext}
 use mathlib.Core.Bool.{Bool, true, false, not}
 use mathlib.Core.List.{List, [], _∷_, _++_}
+use mathlib.Core.Logic.{_≢_}
 use native.Mathlib.Numerals.{add-one}
 use native.Mathlib.Omega.{arith}
 use lib.ListN.{length, getD, take, drop, length-drop}
@@ -38,23 +39,39 @@ sum-all (x ∷ xs) f c h = omega (arith, h x (has-here x xs), sum-all xs f c (λ
 abbrev goes : Matrix → ℕ → ℕ → ℕ
 goes M j r = bit (not (eqb (end (read M r)) (suc j)))
 
-going : (M : Matrix) (j : ℕ) → j < M .columns → sumOver (activeReads M j) (goes M j) ≡ length (sharedReads M j)
+-- a shared read does not end there
+shared-goes : (M : Matrix) (j q : ℕ) → has q (sharedReads M j) ≡ true → end (read M q) ≢ suc j
 unfolding sharedReads
+shared-goes M j q m =
+    let c = active-cells (read M q) (suc j)
+    (active-is M (suc j) q (and-right (active (read M q) j) (has q (activeReads M (suc j))) (sym (has-keep (λ r. active (read M r) j) q (activeReads M (suc j))) ∙ m))) in
+    λ e. omega arith
+
+going : (M : Matrix) (j : ℕ) → j < M .columns → sumOver (activeReads M j) (goes M j) ≡ length (sharedReads M j)
 going M j l =
     ap (λ (x : List ℕ). sumOver x (goes M j)) (active-split M j l)
     ∙ sum-append (sharedReads M j) (closingAt M j) (goes M j)
     ∙ omega (arith, sum-all (sharedReads M j) (goes M j) 1 on, sum-all (closingAt M j) (goes M j) 0 off)
   where
-    next : (q : ℕ) → has q (sharedReads M j) ≡ true → active (read M q) (suc j) ≡ true
-    next q m = active-is M (suc j) q (and-right (active (read M q) j) (has q (activeReads M (suc j))) (sym (has-keep (λ r. active (read M r) j) q (activeReads M (suc j))) ∙ m))
-
     on : (q : ℕ) → has q (sharedReads M j) ≡ true → goes M j q ≡ 1
-    on q m =
-        let c = active-cells (read M q) (suc j) (next q m) in
-        ap (λ (b : Bool). bit (not b)) (ne-eqb (end (read M q)) (suc j) (λ e. omega arith))
+    on q m = ap (λ (b : Bool). bit (not b)) (ne-eqb (end (read M q)) (suc j) (shared-goes M j q m))
 
     off : (q : ℕ) → has q (closingAt M j) ≡ true → goes M j q ≡ 0
     off q m = ap (λ (b : Bool). bit (not b)) (eq-eqb (end (read M q)) (suc j) (ends-at M j q m))
+
+-- where f is e all over the second list and nowhere in the first, a place with e has e behind it
+next-has : (xs ys : List ℕ) (f : ℕ → ℕ) (e : ℕ) → ((q : ℕ) → has q xs ≡ true → f q ≢ e) → ((q : ℕ) → has q ys ≡ true → f q ≡ e)
+    → (i : ℕ) → suc i < length (xs ++ ys) → f (getD (xs ++ ys) i 0) ≡ e → f (getD (xs ++ ys) (suc i) 0) ≡ e
+next-has [] ys f e out inside i l h = inside (getD ys (suc i) 0) (has-getD ys (suc i) l)
+next-has (x ∷ xs) ys f e out inside zero l h = absurd (out x (has-here x xs) h)
+next-has (x ∷ xs) ys f e out inside (suc i) l h = next-has xs ys f e (λ q m. out q (has-more q x xs m)) inside i (omega arith) h
+
+-- behind a read that closes at column j all close there
+next-closes : (M : Matrix) (j : ℕ) → j < M .columns → (i : ℕ) → suc i < length (activeReads M j)
+    → end (read M (getD (activeReads M j) i 0)) ≡ suc j → end (read M (getD (activeReads M j) (suc i) 0)) ≡ suc j
+next-closes M j l =
+    subst (λ (x : List ℕ). (i : ℕ) → suc i < length x → end (read M (getD x i 0)) ≡ suc j → end (read M (getD x (suc i) 0)) ≡ suc j) (sym (active-split M j l))
+    (next-has (sharedReads M j) (closingAt M j) (λ q. end (read M q)) (suc j) (shared-goes M j) (ends-at M j))
 
 module _ (b start first after counts lists : List ℕ) (ready : Ready b start first after counts lists) where
   abbrev reads : ℕ → List ℕ
@@ -75,7 +92,23 @@ module _ (b start first after counts lists : List ℕ) (ready : Ready b start fi
         ∙ ap (λ (n : ℕ). take n (drop (12 * j) lists)) (height-is b start first after counts lists ready j l p q)
         ∙ ready .piled .listed j in-columns
 
+    -- the ends that the list's reads have
+    ends-listed : (i : ℕ) → i < length (reads j) → getD after (getD (listPart b start first after counts lists ready j) i 0) 0 ≡ end (read (matrixOf b) (getD (reads j) i 0))
+    ends-listed i k =
+        let r : ℕ = getD (reads j) i 0 in
+        ap (λ (x : ℕ). getD after x 0) (part-listed b start first after counts lists ready j l i k) ∙ ends-are r (active-lt (matrixOf b) j r (has-getD (reads j) i k))
+
     -- those that close stand behind those that go on
+    pub closes-behind : (i : ℕ) → i + 1 < p → getD after (getD (listPart b start first after counts lists ready j) i 0) 0 ≡ j + 1
+        → getD after (getD (listPart b start first after counts lists ready j) (i + 1) 0) 0 ≡ j + 1
+    closes-behind i k h =
+        let many : p ≡ length (reads j) = height-is b start first after counts lists ready j l p q in
+        ap (λ (n : ℕ). getD after (getD (listPart b start first after counts lists ready j) n 0) 0) (add-one i)
+        ∙ ends-listed (suc i) (omega arith)
+        ∙ next-closes (matrixOf b) j in-columns i (omega arith) (sym (ends-listed i (omega arith)) ∙ h ∙ add-one j)
+        ∙ sym (add-one j)
+
+    -- those that go on are the shared reads
     pub going-is : (s : ℕ) → s ≡ sumTo p (λ i. bit (not (eqb (getD after (getD (listPart b start first after counts lists ready j) i 0) 0) (j + 1)))) → s ≡ length (sharedReads (matrixOf b) j)
     going-is s h =
         h
@@ -85,11 +118,7 @@ module _ (b start first after counts lists : List ℕ) (ready : Ready b start fi
         ∙ going (matrixOf b) j in-columns
       where
         each : (i : ℕ) → i < length (reads j) → bit (not (eqb (getD after (getD (listPart b start first after counts lists ready j) i 0) 0) (j + 1))) ≡ goes (matrixOf b) j (getD (reads j) i 0)
-        each i k =
-            let r : ℕ = getD (reads j) i 0 in
-            ap₂ (λ (x y : ℕ). bit (not (eqb x y)))
-            (ap (λ (x : ℕ). getD after x 0) (part-listed b start first after counts lists ready j l i k) ∙ ends-are r (active-lt (matrixOf b) j r (has-getD (reads j) i k)))
-            (add-one j)
+        each i k = ap₂ (λ (x y : ℕ). bit (not (eqb x y))) (ends-listed i k) (add-one j)
 
     pub closing-is : (s : ℕ) → s ≡ length (sharedReads (matrixOf b) j) → drop s (take p (listPart b start first after counts lists ready j)) ≡ closingAt (matrixOf b) j
     closing-is s e =

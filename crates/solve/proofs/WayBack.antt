@@ -22,7 +22,7 @@ use Rattle.solve.specs.Ready.{Ready}
 use Rattle.solve.proofs.Pass.{least-parts}
 use Rattle.solve.proofs.Sizes.{columns-are, ready-formed, column-sizes}
 use Rattle.solve.proofs.Columns.{listPart, list-fits, list-read, height-is}
-use Rattle.solve.proofs.Back.{list-distinct, entries-length, bits-small, back-step}
+use Rattle.solve.proofs.Back.{closes-behind, list-distinct, entries-length, bits-small, back-step}
 use Rattle.solve.proofs.Answered.{sides-list}
 
 -- a byte of 0 or 1 is the bit of its side
@@ -60,11 +60,13 @@ module _ (b start first after counts lists : List ℕ) (ready : Ready b start fi
   module _ (j : ℕ) (l : j < columnsField b) (p : ℕ) (q : p ≡ getD counts j 0) where
     -- what is asked to count the reads that go on
     pub going-fits : ((p ≤ 12) × (p ≤ length (listPart b start first after counts lists ready j)) × (j < 1024))
-        × ((i : ℕ) → i < p → getD (listPart b start first after counts lists ready j) i 0 < length after)
+        × (((i : ℕ) → i < p → getD (listPart b start first after counts lists ready j) i 0 < length after)
+        × ((i : ℕ) → i + 1 < p → getD after (getD (listPart b start first after counts lists ready j) i 0) 0 ≡ j + 1
+        → getD after (getD (listPart b start first after counts lists ready j) (i + 1) 0) 0 ≡ j + 1))
     going-fits =
         let f = list-fits b start first after counts lists ready j l p q in
         let z = column-sizes b start first after counts lists ready j (entries (matrixOf b)) l refl in
-        ((f .0, f .1, omega arith), λ i k. le-trans (list-read b start first after counts lists ready j l p q i k) (ready .ends-room))
+        ((f .0, f .1, omega arith), (λ i k. le-trans (list-read b start first after counts lists ready j l p q i k) (ready .ends-room), closes-behind b start first after counts lists ready j l p q))
 
     module _ (t : ℕ) (e : t ≡ entries (matrixOf b)) (work : List ℕ) (room : columnsField b * t ≤ length work) (n : ℕ) (f : n ≡ used p) where
       -- and to settle those that close

@@ -1,22 +1,22 @@
 // One block, solved by `velejume::phase` and held against what is expected: both numbers, every work entry and every output byte, those
 // that are not lent included.
 ghost use Prim.Native.Nat.{_≤_};
-use crate::bytes::long;
-use crate::bytes::wide;
-use crate::exhaustive::solve;
-use crate::output::Output;
-use crate::refusals::Numbers;
-use crate::refusals::given;
 use crate::report::Tally;
 use crate::report::count;
 use crate::report::differs;
 use crate::report::differs_at;
-use crate::rooms::Rooms;
-use crate::rooms::Table;
-use crate::rooms::fill_output;
-use crate::rooms::fill_table;
-use crate::rooms::other_byte;
-use crate::rooms::other_entry;
+use exhaustive::output::Output;
+use exhaustive::refusals::Numbers;
+use exhaustive::refusals::given;
+use exhaustive::rooms::Rooms;
+use exhaustive::rooms::Table;
+use exhaustive::rooms::fill_output;
+use exhaustive::rooms::fill_table;
+use exhaustive::rooms::other_byte;
+use exhaustive::rooms::other_entry;
+use exhaustive::solver::solve;
+use fields::long;
+use fields::wide;
 
 // Whether the two are the same. A difference is reported, in these three functions.
 pub fn same_numbers(name: &[u8], found: Numbers, expected: Numbers, tally: &mut Tally) -> bool {

@@ -1,29 +1,30 @@
-// Builders' answers, judged by `velejume::judge` and held against this program's own judging: both numbers and every work entry, those
+// Builders' answers, judged by `velejume::judge` and held against the judging of `answers`: both numbers and every work entry, those
 // that are not lent included. Answers to P1 with stated verdicts, then answers to generated blocks, kind by kind.
 ghost use Prim.Native.Nat.{_≤_};
-use crate::answers;
-use crate::answers::put_answer;
-use crate::bytes::Bytes;
-use crate::bytes::long;
-use crate::bytes::low;
-use crate::damage;
-use crate::damage::damage;
-use crate::exhaustive::measure;
-use crate::generate::Shape;
-use crate::generate::generate;
 use crate::held::same_numbers;
 use crate::held::same_work;
-use crate::random::below;
-use crate::random::within;
-use crate::refusals::Numbers;
-use crate::refusals::given;
 use crate::report::Tally;
 use crate::report::count;
 use crate::report::line;
-use crate::rooms::Table;
-use crate::rooms::fill_table;
-use crate::rooms::lent;
-use crate::verdicts::judging;
+use answers::builders;
+use answers::builders::put_answer;
+use answers::verdicts::judging;
+use cases::damage;
+use cases::damage::damage;
+use cases::generate::Shape;
+use cases::generate::generate;
+use cases::generate::some_shape;
+use cases::random::below;
+use cases::random::within;
+use exhaustive::refusals::Numbers;
+use exhaustive::refusals::given;
+use exhaustive::rooms::Table;
+use exhaustive::rooms::fill_table;
+use exhaustive::rooms::lent;
+use exhaustive::solver::measure;
+use fields::Bytes;
+use fields::long;
+use fields::low;
 
 // What else is amiss with a trial: nothing, a work room that is one short, a damaged block, or a block that is crowded.
 const NOTHING: u8 = 0;
@@ -56,7 +57,7 @@ fn against(
     }
 }
 
-// An answer against this program's own judging.
+// An answer against the judging of `answers`.
 fn against_judging(name: &[u8], block: &[u8], answer: &[u8], work: usize, tally: &mut Tally)
     requires { ⌜ work ≤ 16384 ⌝ }
 {
@@ -66,7 +67,7 @@ fn against_judging(name: &[u8], block: &[u8], answer: &[u8], work: usize, tally:
     against(name, block, answer, work, expected, &table, tally);
 }
 
-// An answer to P1 against its stated verdict, which this program's own judging has to give too.
+// An answer to P1 against its stated verdict, which the judging of `answers` has to give too.
 fn stated(answer: &[u8], number: usize, second: usize, tally: &mut Tally) {
     let block =
         b"\x01\x00\x00\x00\x20\x00\x02\x00\x04\x00\x04\x00\x00\x00\x05\x00\x06\x00\x00\x01\x03\x00\x02\x00\x06\x00\x00\x01\x06\x01\x01\x00\x04\x00\x01\x00\x02";
@@ -123,19 +124,6 @@ fn some_work(block: &[u8], short: bool, state: &mut u32) -> usize
         return need;
     }
     16384
-}
-
-// Few reads and columns, of one of the kinds of block.
-fn some_shape(state: &mut u32) -> Shape {
-    match below(state, 7) {
-        0 => Shape::new(6, 0, 6),
-        1 => Shape::new(12, 1, 6).holes(8),
-        2 => Shape::new(6, 1, 6).holes(4).weights(1, 9),
-        3 => Shape::new(5, 2, 7).holes(2).weights(1, 1),
-        4 => Shape::new(5, 2, 7).holes(3).weights(0, 1),
-        5 => Shape::new(5, 1, 7).holes(3).weights(0, 3).empty(3),
-        _ => Shape::new(9, 2, 7).holes(3).weights(0, 3).apart(),
-    }
 }
 
 fn shape_for(amiss: u8, state: &mut u32) -> Shape {
@@ -205,39 +193,39 @@ fn sound(name: &[u8], answer: u8, answers: usize, state: &mut u32, all: &mut Tal
 }
 
 fn honest_kinds(state: &mut u32, all: &mut Tally) {
-    sound(b"answer ours", answers::OURS, 300, state, all);
-    sound(b"answer with other flips", answers::FLIPS, 300, state, all);
+    sound(b"answer ours", builders::OURS, 300, state, all);
+    sound(b"answer with other flips", builders::FLIPS, 300, state, all);
     sound(
         b"answer with sides exchanged",
-        answers::EXCHANGED,
+        builders::EXCHANGED,
         300,
         state,
         all,
     );
     sound(
         b"answer with one side exchanged",
-        answers::SIDE,
+        builders::SIDE,
         300,
         state,
         all,
     );
     sound(
         b"answer of another division",
-        answers::DIVISION,
+        builders::DIVISION,
         300,
         state,
         all,
     );
     sound(
         b"answer with another letter",
-        answers::LETTER,
+        builders::LETTER,
         300,
         state,
         all,
     );
     sound(
         b"answer with letters at ties",
-        answers::TIES,
+        builders::TIES,
         300,
         state,
         all,
@@ -245,33 +233,33 @@ fn honest_kinds(state: &mut u32, all: &mut Tally) {
 }
 
 fn false_kinds(state: &mut u32, all: &mut Tally) {
-    sound(b"answer with another cost", answers::COST, 300, state, all);
-    sound(b"answer with `-` put", answers::DASH, 300, state, all);
+    sound(b"answer with another cost", builders::COST, 300, state, all);
+    sound(b"answer with `-` put", builders::DASH, 300, state, all);
     sound(
         b"answer with a mark damaged",
-        answers::MARK,
+        builders::MARK,
         600,
         state,
         all,
     );
     sound(
         b"answer with other counts",
-        answers::COUNTS,
+        builders::COUNTS,
         300,
         state,
         all,
     );
     sound(
         b"answer with a byte damaged",
-        answers::BYTE,
+        builders::BYTE,
         600,
         state,
         all,
     );
-    sound(b"answer cut off", answers::CUT, 300, state, all);
+    sound(b"answer cut off", builders::CUT, 300, state, all);
     sound(
         b"answer with bytes behind",
-        answers::BEHIND,
+        builders::BEHIND,
         300,
         state,
         all,
@@ -286,7 +274,7 @@ pub fn run(all: &mut Tally) {
     false_kinds(&mut state, all);
     kind(
         b"answer judged in a short room",
-        answers::OURS,
+        builders::OURS,
         SHORT,
         300,
         &mut state,
@@ -294,7 +282,7 @@ pub fn run(all: &mut Tally) {
     );
     kind(
         b"answer to a damaged block",
-        answers::OURS,
+        builders::OURS,
         DAMAGED,
         900,
         &mut state,
@@ -302,7 +290,7 @@ pub fn run(all: &mut Tally) {
     );
     kind(
         b"answer to a crowded block",
-        answers::OURS,
+        builders::OURS,
         CROWDED,
         60,
         &mut state,

@@ -1,18 +1,18 @@
 // Generated blocks, kind by kind, each against the exhaustive solver.
-ghost use Prim.Native.Nat.{_≤_, _<_};
-use crate::bytes::Bytes;
-use crate::damage;
-use crate::damage::damage;
-use crate::exhaustive::measure;
-use crate::generate::Shape;
-use crate::generate::generate;
+ghost use Prim.Native.Nat.{_≤_};
 use crate::held::against_search;
-use crate::random::below;
 use crate::report::Tally;
 use crate::report::line;
-use crate::rooms::Rooms;
-use crate::rooms::ample;
-use crate::rooms::lent;
+use cases::damage;
+use cases::damage::damage;
+use cases::generate::Shape;
+use cases::generate::generate;
+use cases::random::below;
+use exhaustive::rooms::Rooms;
+use exhaustive::rooms::ample;
+use exhaustive::rooms::lent;
+use exhaustive::solver::measure;
+use fields::Bytes;
 
 // One less, or 0.
 fn less(x: usize) -> usize {

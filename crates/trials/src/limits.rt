@@ -1,57 +1,17 @@
 // Both sides of every limit: the numbers are document 01's, what the rooms hold is the exhaustive solver's.
 ghost use Prim.Native.Nat.{_≤_};
-use crate::bytes::Bytes;
-use crate::bytes::plus;
-use crate::bytes::put;
-use crate::bytes::put_header;
-use crate::bytes::put_size;
-use crate::bytes::put_word;
 use crate::held::against_numbers;
-use crate::refusals::Numbers;
-use crate::refusals::given;
 use crate::report::Tally;
 use crate::report::line;
-use crate::rooms::Rooms;
-use crate::rooms::ample;
-use crate::rooms::lent;
 use crate::stated::against_stated;
-
-// c cells of letter 0 and weight 1; with a gap, those between the ends are holes.
-fn put_cells(bytes: &mut Bytes, at: usize, c: usize, gap: bool) -> usize
-    requires { ⌜ at ≤ 8192 ⌝ }
-    ensures { λ r. ⌜ r ≤ 8192 ⌝ }
-{
-    let mut end = at;
-    let mut i: usize = 0;
-    while i < c {
-        let hole = gap && i > 0 && i + 1 < c;
-        end = put(bytes, end, if hole { 2 } else { 0 });
-        end = put(bytes, end, if hole { 0 } else { 1 });
-        i += 1;
-    }
-    end
-}
-
-fn put_read(bytes: &mut Bytes, at: usize, column: usize, c: usize, gap: bool) -> usize
-    ensures { λ r. ⌜ r ≤ 8192 ⌝ }
-{
-    let first = put_word(bytes, at, plus(2, plus(c, c)));
-    let cells = put_word(bytes, first, column);
-    put_cells(bytes, cells, c, gap)
-}
-
-fn put_reads(bytes: &mut Bytes, at: usize, reads: usize, column: usize, c: usize) -> usize
-    requires { ⌜ at ≤ 8192 ⌝ }
-    ensures { λ r. ⌜ r ≤ 8192 ⌝ }
-{
-    let mut end = at;
-    let mut r: usize = 0;
-    while r < reads {
-        end = put_read(bytes, end, column, c, false);
-        r += 1;
-    }
-    end
-}
+use cases::alike::put_alike;
+use cases::alike::put_gapped;
+use exhaustive::refusals::Numbers;
+use exhaustive::refusals::given;
+use exhaustive::rooms::Rooms;
+use exhaustive::rooms::ample;
+use exhaustive::rooms::lent;
+use fields::Bytes;
 
 fn numbered(b: Bytes, size: usize, rooms: Rooms, expected: Numbers, tally: &mut Tally)
     requires { ⌜ (size ≤ 8192) × ((rooms .work ≤ 16384) × (rooms .out ≤ 4096)) ⌝ }
@@ -72,19 +32,14 @@ fn alike(
     requires { ⌜ (rooms .work ≤ 16384) × (rooms .out ≤ 4096) ⌝ }
 {
     let mut b = [0u8; 8192];
-    let start = put_header(&mut b, m, n);
-    let size = put_reads(&mut b, start, n, column, c);
-    put_size(&mut b, size);
+    let size = put_alike(&mut b, m, n, column, c);
     numbered(b, size, rooms, expected, tally);
 }
 
 // Reads at column 1 of three, and one more that is active there only by its gap.
 fn gapped(reads: usize, expected: Numbers, tally: &mut Tally) {
     let mut b = [0u8; 8192];
-    let start = put_header(&mut b, 3, plus(reads, 1));
-    let last = put_reads(&mut b, start, reads, 1, 1);
-    let size = put_read(&mut b, last, 0, 3, true);
-    put_size(&mut b, size);
+    let size = put_gapped(&mut b, reads);
     numbered(b, size, ample(), expected, tally);
 }
 
@@ -101,9 +56,7 @@ fn all_empty(b: Bytes, size: usize, tally: &mut Tally)
 // 1,024 reads, more than the exhaustive solver has rows for.
 fn most_reads(tally: &mut Tally) {
     let mut b = [0u8; 8192];
-    let start = put_header(&mut b, 1, 1024);
-    let size = put_reads(&mut b, start, 1024, 0, 0);
-    put_size(&mut b, size);
+    let size = put_alike(&mut b, 1, 1024, 0, 0);
     all_empty(b, size, tally);
 }
 

@@ -1,26 +1,13 @@
 // The cases of documents 01 and 02 that are run: the examples, both sides of the limits, generated blocks against an exhaustive solver that
 // shares nothing with the column method, and builders' answers against a judging from that solver. Prints what was tried and the
 // differences found.
-mod answers;
-mod bytes;
-mod charge;
-mod damage;
 mod examples;
-mod exhaustive;
-mod generate;
 mod held;
 mod judged;
 mod kinds;
 mod limits;
-mod matrix;
-mod output;
-mod random;
-mod refusals;
 mod report;
-mod rooms;
-mod search;
 mod stated;
-mod verdicts;
 
 fn main() {
     let mut all = [0usize; 22];

@@ -1,66 +1,67 @@
 use borrow.Author.Needs.{needs}
 use native.Mathlib.Omega.{arith}
-use Prim.Native.Nat.{ℕ, _+_, _-_, _≤_, zero-le}
-use mathlib.Core.Bool.{Bool, true, false, not}
+use Prim.Native.Nat.{ℕ, _+_, _-_, _≤_}
 use mathlib.Core.List.{List}
-use mathlib.Core.Logic.{⊎-elim}
 use mathlib.Core.Path.{_≡_, refl, sym, ap, _∙_}
-use borrow.Author.Tests.{eq-eqb, ne-eqb}
-use lib.Dec.{eqb}
 use lib.ListN.{getD}
 use Rattle.fold.specs.Turn.{sharedTo}
-use Rattle.fold.proofs.Count.{count-none, count-yes, count-no, count-le}
+use Rattle.fold.proofs.Count.{count-none}
+use Rattle.back.proofs.GoingOn.{goesOn, closes-more, all-go-on}
 use Rattle.back.proofs.going_on.Statement.{statement}
 use Rattle.back.proofs.going_on.Tie as tie
 
--- whether the i-th read of the list goes on after column j
-abbrev goesOn : List ℕ → List ℕ → ℕ → ℕ → Bool
-goesOn list end j i = not (eqb (getD end (getD list i 0) 0) (j + 1))
+-- the end of the i-th read of the list
+abbrev ends : List ℕ → List ℕ → ℕ → ℕ
+ends list end i = getD end (getD list i 0) 0
 
+-- the reads from i on close
 abbrev Inv-loop : tie.InvT-loop
-Inv-loop list p end j after count₀ i₀ count i = (i ≤ p) × (after ≡ j + 1) × (count ≡ sharedTo (goesOn list end j) i)
+Inv-loop list p end j after i₀ i = (i ≤ p) × (after ≡ j + 1) × (sharedTo (goesOn (ends list end) (j + 1)) p ≡ sharedTo (goesOn (ends list end) (j + 1)) i)
 
 abbrev μ-loop : tie.MeasureT-loop
-μ-loop list p end j after count₀ i₀ count i = p - i
+μ-loop list p end j after i₀ i = i
 
 add-after : tie.Need-add-after Inv-loop μ-loop
 add-after c = search needs
 
 loop-holds : tie.Need-loop-holds Inv-loop μ-loop
-loop-holds c = let a = c .before .before .args in (zero-le, refl, sym (count-none (goesOn (a .list .now) (a .end .now) (a .j))))
+loop-holds c = (omega arith, refl, refl)
+
+sub-of-read : tie.Need-sub-of-read Inv-loop μ-loop
+sub-of-read c = search needs
 
 of-read-requires : tie.Need-of-read-requires Inv-loop μ-loop
-of-read-requires c κs = (omega arith, c .before .before .before .before .pre .1 (c .before .loop .i) (c .loop-test .taken))
+of-read-requires c κs = (omega arith, c .before .before .before .before .pre .1 .0 (c .before .loop .i - 1) (omega arith))
 
-add-count : tie.Need-add-count Inv-loop μ-loop
-add-count c = let a = c .before .before .before .before .before .before .args in omega (arith, count-le (goesOn (a .list .now) (a .end .now) (a .j)) (c .before .before .before .loop .i))
+returns : tie.Need-returns Inv-loop μ-loop
+returns c =
+    let s = c .before .before .before .before .before .before in
+    let l = c .before .before .before .loop in
+    let e : l .i - 1 + 1 ≡ l .i = omega arith in
+    sym
+    (l .inv .2
+    ∙ ap (sharedTo (goesOn (ends (s .args .list .now) (s .args .end .now)) (s .args .j + 1))) (sym e)
+    ∙ all-go-on (ends (s .args .list .now) (s .args .end .now)) (s .args .j + 1) (s .args .p) (s .pre .1 .1) (l .i - 1) (omega arith) (λ h. c .if1 .taken (c .before .of-read .ensures ∙ h ∙ sym (l .inv .1)))
+    ∙ e)
 
-add-i : tie.Need-add-i Inv-loop μ-loop
-add-i c = search needs
+sub-i : tie.Need-sub-i Inv-loop μ-loop
+sub-i c = search needs
 
 loop-less : tie.Need-loop-less Inv-loop μ-loop
 loop-less c = search needs
 
 loop-again : tie.Need-loop-again Inv-loop μ-loop
 loop-again c =
-    let a = c .before .before .before .before .before .before .args in
+    let s = c .before .before .before .before .before .before .args in
     let l = c .before .before .before .loop in
-    let x = getD (a .end .now) (getD (a .list .now) (l .i) 0) 0 in
-    let test = goesOn (a .list .now) (a .end .now) (a .j) in
-    ⊎-elim
-    (λ w.
-    let e : test (l .i) ≡ true = ap not (ne-eqb x (a .j + 1) (λ h. w .0 .taken (c .before .of-read .ensures ∙ h ∙ sym (l .inv .1)))) in
-    (omega arith, l .inv .1, w .1 ∙ ap (λ (n : ℕ). n + 1) (l .inv .2) ∙ sym (count-yes test (l .i) e)))
-    (λ w.
-    let e : test (l .i) ≡ false = ap not (eq-eqb x (a .j + 1) (sym (c .before .of-read .ensures) ∙ w .0 .left ∙ l .inv .1)) in
-    (omega arith, l .inv .1, w .1 ∙ l .inv .2 ∙ sym (count-no test (l .i) e)))
-    (c .if1 .came)
+    (omega arith, l .inv .1, l .inv .2 ∙ closes-more (ends (s .list .now) (s .end .now)) (s .j + 1) (l .i) (omega arith) (sym (c .before .of-read .ensures) ∙ c .if1 .left ∙ l .inv .1))
 
-returns : tie.Need-returns Inv-loop μ-loop
-returns c =
-    let a = c .before .before .before .before .args in
-    let e : c .before .loop .i ≡ a .p = omega arith in
-    c .before .loop .inv .2 ∙ ap (sharedTo (goesOn (a .list .now) (a .end .now) (a .j))) e
+returns-2 : tie.Need-returns-2 Inv-loop μ-loop
+returns-2 c =
+    let s = c .before .before .before .before .args in
+    let test = goesOn (ends (s .list .now) (s .end .now)) (s .j + 1) in
+    let e : c .before .loop .i ≡ 0 = omega arith in
+    sym (c .before .loop .inv .2 ∙ ap (sharedTo test) e ∙ count-none test)
 
 pub going-on-spec : {M : Type 1} → statement M
 going-on-spec =
@@ -70,9 +71,10 @@ going-on-spec =
     μ-loop
     add-after
     loop-holds
+    sub-of-read
     of-read-requires
-    add-count
-    add-i
+    returns
+    sub-i
     loop-less
     loop-again
-    returns)
+    returns-2)

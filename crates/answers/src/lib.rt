@@ -1,0 +1,3 @@
+// Document 02 for the trials: answers that a builder may give, and the verdicts on them from the exhaustive solver.
+pub mod builders;
+pub mod verdicts;

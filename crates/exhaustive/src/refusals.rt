@@ -1,0 +1,153 @@
+// The numbers 1 to 8, from document 01's table and nothing else.
+ghost use Prim.Native.Nat.{_≤_};
+use fields::byte;
+use fields::plus;
+use fields::word;
+
+// The two numbers of a call.
+pub struct Numbers {
+    pub number: usize,
+    pub second: usize,
+}
+
+pub fn given(number: usize, second: usize) -> Numbers {
+    Numbers {
+        number: number,
+        second: second,
+    }
+}
+
+// How many bytes stand from a place on.
+fn left(block: &[u8], at: usize) -> usize {
+    if at < block.len() {
+        return block.len() - at;
+    }
+    0
+}
+
+// The checks 1 to 4, or 0.
+fn header_number(block: &[u8]) -> usize {
+    if block.len() < 9 {
+        return 1;
+    }
+    if byte(block, 0) != 1 {
+        return 2;
+    }
+    if word(block, 1) * 65536 + word(block, 3) != block.len() - 5 {
+        return 3;
+    }
+    let m = word(block, 5);
+    if m == 0 {
+        return 4;
+    }
+    if m > 1024 {
+        return 4;
+    }
+    if word(block, 7) > 1024 {
+        return 4;
+    }
+    0
+}
+
+// A letter above 2, a hole with weight, or a hole at an end.
+fn faulty(letter: usize, weight: usize, inner: bool) -> bool {
+    if letter < 2 {
+        return false;
+    }
+    if letter > 2 {
+        return true;
+    }
+    if weight > 0 {
+        return true;
+    }
+    !inner
+}
+
+// Whether one of the c cells from a place on is faulty.
+fn faulty_cells(block: &[u8], at: usize, c: usize) -> bool {
+    let mut cell = at;
+    let mut i: usize = 0;
+    while i < c {
+        let inner = i > 0 && i + 1 < c;
+        if faulty(byte(block, cell), byte(block, plus(cell, 1)), inner) {
+            return true;
+        }
+        cell = plus(cell, 2);
+        i += 1;
+    }
+    false
+}
+
+// The number of cells of the read at a place.
+pub fn cells(block: &[u8], at: usize) -> usize
+    ensures { λ r. ⌜ r ≤ 32767 ⌝ }
+{
+    let length = word(block, at);
+    if length < 2 {
+        return 0;
+    }
+    (length - 2) / 2
+}
+
+// Where the read at a place ends.
+pub fn behind(block: &[u8], at: usize) -> usize {
+    plus(at, word(block, at) + 2)
+}
+
+// The checks 5, 6 and 7 for the read at a place, or 0.
+fn read_number(block: &[u8], at: usize, m: usize) -> usize {
+    if left(block, at) < 2 {
+        return 5;
+    }
+    let length = word(block, at);
+    if length < 2 {
+        return 5;
+    }
+    if length % 2 == 1 {
+        return 5;
+    }
+    if left(block, at) < length + 2 {
+        return 5;
+    }
+    let first = word(block, plus(at, 2));
+    let c = cells(block, at);
+    if c == 0 {
+        if first > 0 {
+            return 6;
+        }
+    }
+    if first + c > m {
+        return 6;
+    }
+    if faulty_cells(block, plus(at, 4), c) {
+        return 7;
+    }
+    0
+}
+
+// The checks 5 to 8, for a block of m columns and n reads.
+fn reads_numbers(block: &[u8], m: usize, n: usize) -> Numbers {
+    let mut at: usize = 9;
+    let mut r: usize = 0;
+    while r < n {
+        let number = read_number(block, at, m);
+        if number > 0 {
+            return given(number, r);
+        }
+        at = behind(block, at);
+        r += 1;
+    }
+    if left(block, at) > 0 {
+        return given(8, 0);
+    }
+    given(0, 0)
+}
+
+// The checks 1 to 8; the number is 0 where none applies.
+pub fn checked(block: &[u8]) -> Numbers {
+    let number = header_number(block);
+    if number > 0 {
+        return given(number, 0);
+    }
+    reads_numbers(block, word(block, 5), word(block, 7))
+}

@@ -1,0 +1,95 @@
+// The lent rooms: what they hold before a call, and where two of them differ after it.
+ghost use Prim.Native.Nat.{_≤_};
+ghost use lib.ListN.{length};
+use crate::output::Output;
+
+// 16,384 entries, and one that is never lent.
+pub type Table = [u32; 16385];
+
+// How much of each room is lent.
+pub struct Rooms {
+    pub work: usize,
+    pub out: usize,
+}
+
+fn lesser(a: usize, b: usize) -> usize
+    ensures { λ r. ⌜ r ≤ b ⌝ }
+{
+    if a < b { a } else { b }
+}
+
+// So much of each, or all.
+pub fn lent(work: usize, out: usize) -> Rooms
+    ensures { λ r. ⌜ (r .work ≤ 16384) × (r .out ≤ 4096) ⌝ }
+{
+    Rooms {
+        work: lesser(work, 16384),
+        out: lesser(out, 4096),
+    }
+}
+
+// As much as `phase` lends.
+pub fn ample() -> Rooms
+    ensures { λ r. ⌜ (r .work ≤ 16384) × (r .out ≤ 4096) ⌝ }
+{
+    lent(16384, 4096)
+}
+
+// Above every cost, and another number in every entry.
+pub fn fill_table(table: &mut [u32])
+    requires { ⌜ length (now table) ≤ 16385 ⌝ }
+{
+    let mut i: usize = 0;
+    while i < table.len() {
+        table[i] = 4000000000 + i as u32;
+        i += 1;
+    }
+}
+
+// The entries, from the front of the table on.
+pub fn put_entries(table: &mut Table, entries: &[u32]) {
+    let mut i: usize = 0;
+    while i < entries.len() {
+        if i < 16385 {
+            table[i] = entries[i];
+        }
+        i += 1;
+    }
+}
+
+// No side and no letter.
+pub fn fill_output(out: &mut [u8]) {
+    let mut i: usize = 0;
+    while i < out.len() {
+        out[i] = (100 + i % 100) as u8;
+        i += 1;
+    }
+}
+
+// The first entry where the two differ; 16,385 if they are the same.
+pub fn other_entry(a: &Table, b: &Table) -> usize
+    ensures { λ r. ⌜ r ≤ 16385 ⌝ }
+{
+    let mut i: usize = 0;
+    while i < 16385 {
+        if a[i] != b[i] {
+            return i;
+        }
+        i += 1;
+    }
+    16385
+}
+
+// The first byte where the two differ; 4,096 if they are the same.
+pub fn other_byte(a: &Output, b: &Output) -> usize
+    ensures { λ r. ⌜ r ≤ 4096 ⌝ }
+{
+    let mut i: usize = 0;
+    while i < 4096 {
+        if a[i] != b[i] {
+            return i;
+        }
+        i += 1;
+    }
+    4096
+}

@@ -1,0 +1,206 @@
+// The exhaustive solver, from document 01's definitions: refusals, table and answer block.
+ghost use Prim.Native.Nat.{_≤_};
+use crate::charge::Sides;
+use crate::charge::flips;
+use crate::charge::letter;
+use crate::charge::sum;
+use crate::matrix::Cells;
+use crate::matrix::Columns;
+use crate::matrix::first_above;
+use crate::matrix::lay;
+use crate::matrix::most_active;
+use crate::matrix::row;
+use crate::matrix::spans;
+use crate::output::Output;
+use crate::output::put_head;
+use crate::refusals::Numbers;
+use crate::refusals::checked;
+use crate::refusals::given;
+use crate::rooms::Rooms;
+use crate::rooms::Table;
+use crate::search::Best;
+use crate::search::divide;
+use crate::search::doubled;
+use crate::search::spot;
+use crate::search::walk;
+use fields::long;
+use fields::word;
+
+// What the checks 1 to 9 give; if none applies, m, n, T and what both rooms need.
+pub struct Sizes {
+    pub number: usize,
+    pub second: usize,
+    pub m: usize,
+    pub n: usize,
+    pub t: usize,
+    pub work: usize,
+    pub out: usize,
+}
+
+fn stopped(number: usize, second: usize) -> Sizes
+    ensures { λ r. ⌜ (r .m ≤ 1024) × (r .n ≤ 16) ⌝ }
+{
+    Sizes {
+        number: number,
+        second: second,
+        m: 0,
+        n: 0,
+        t: 0,
+        work: 0,
+        out: 0,
+    }
+}
+
+// The check 9, for a block that passes 1 to 8.
+fn measure_sound(block: &[u8], m: usize, n: usize) -> Sizes
+    requires { ⌜ (m ≤ 1024) × (n ≤ 16) ⌝ }
+    ensures { λ r. ⌜ (r .m ≤ 1024) × (r .n ≤ 16) ⌝ }
+{
+    let mut first = [0usize; 16];
+    let mut end = [0usize; 16];
+    spans(block, n, &mut first, &mut end);
+    let most = most_active(&first, &end, n, m);
+    if most > 12 {
+        return stopped(9, first_above(&first, &end, n, m, 12));
+    }
+    let halved = if most == 0 { 0 } else { most - 1 };
+    Sizes {
+        number: 0,
+        second: 0,
+        m: m,
+        n: n,
+        t: doubled(1, halved),
+        work: doubled(m, halved),
+        out: 17 + n + 2 * m,
+    }
+}
+
+// A block with more reads than this solver has rows for gets 99, which no call gives: it shows as a difference.
+pub fn measure(block: &[u8]) -> Sizes
+    ensures { λ r. ⌜ (r .m ≤ 1024) × (r .n ≤ 16) ⌝ }
+{
+    let c = checked(block);
+    if c.number > 0 {
+        return stopped(c.number, c.second);
+    }
+    let m = word(block, 5);
+    let n = word(block, 7);
+    if m > 1024 {
+        return stopped(99, m);
+    }
+    if n > 16 {
+        return stopped(99, n);
+    }
+    measure_sound(block, m, n)
+}
+
+// An entry that no division agrees with is none of its column's 2^(p - 1), and 0.
+fn clear_rest(table: &mut Table, count: usize) {
+    let end = spot(count);
+    let mut i: usize = 0;
+    while i < end {
+        if table[i] >= 4000000000 {
+            table[i] = 0;
+        }
+        i += 1;
+    }
+}
+
+// The letters of both haplotypes, into the answer block; and the number of flips.
+fn put_letters(
+    letters: &Cells,
+    weights: &Cells,
+    sides: &Sides,
+    n: usize,
+    m: usize,
+    answer: &mut Output,
+) -> u32
+    requires { ⌜ (n ≤ 16) × (m ≤ 1024) ⌝ }
+{
+    let mut total: u32 = 0;
+    let mut j: usize = 0;
+    while j < m {
+        let one = letter(letters, weights, sides, n, j, 0);
+        let two = letter(letters, weights, sides, n, j, 1);
+        answer[17 + n + j] = one;
+        answer[17 + n + m + j] = two;
+        total = sum(total, flips(letters, sides, n, j, 0, one));
+        total = sum(total, flips(letters, sides, n, j, 1, two));
+        j += 1;
+    }
+    total
+}
+
+// The sides by read number, into the answer block.
+fn put_sides(end: &Columns, sides: &Sides, n: usize, answer: &mut Output)
+    requires { ⌜ n ≤ 16 ⌝ }
+{
+    let mut r: usize = 0;
+    while r < n {
+        let i = row(end, n, r);
+        answer[17 + r] = sides[i];
+        r += 1;
+    }
+}
+
+// The answer block of a division, which is by rows; `end` is by reads.
+fn put_answer(
+    end: &Columns,
+    letters: &Cells,
+    weights: &Cells,
+    n: usize,
+    m: usize,
+    best: Best,
+    answer: &mut Output,
+)
+    requires { ⌜ (n ≤ 16) × (m ≤ 1024) ⌝ }
+{
+    let mut sides = [0u8; 16];
+    divide(best.place, n, &mut sides);
+    let flips = put_letters(letters, weights, &sides, n, m, answer);
+    put_sides(end, &sides, n, answer);
+    put_head(answer, long(best.cost), long(flips), n, m);
+}
+
+// The table and the answer block of a block that is accepted; and its cost.
+fn accept(block: &[u8], n: usize, m: usize, t: usize, table: &mut Table, answer: &mut Output) -> u32
+    requires { ⌜ (n ≤ 16) × (m ≤ 1024) ⌝ }
+{
+    let mut first = [0usize; 16];
+    let mut end = [0usize; 16];
+    spans(block, n, &mut first, &mut end);
+    let mut row_first = [0usize; 16];
+    let mut row_end = [0usize; 16];
+    let mut letters = [2u8; 16384];
+    let mut weights = [0u8; 16384];
+    lay(
+        block,
+        n,
+        &first,
+        &end,
+        &mut row_first,
+        &mut row_end,
+        &mut letters,
+        &mut weights,
+    );
+    let best = walk(&row_first, &row_end, &letters, &weights, n, m, t, table);
+    put_answer(&end, &letters, &weights, n, m, best, answer);
+    best.cost
+}
+
+// Solves a block for rooms of these sizes: both numbers, and on acceptance the table and the answer block from the front of each room.
+pub fn solve(block: &[u8], rooms: Rooms, table: &mut Table, answer: &mut Output) -> Numbers {
+    let s = measure(block);
+    if s.number > 0 {
+        return given(s.number, s.second);
+    }
+    if rooms.work < s.work {
+        return given(10, s.work);
+    }
+    if rooms.out < s.out {
+        return given(11, s.out);
+    }
+    let cost = accept(block, s.n, s.m, s.t, table, answer);
+    clear_rest(table, s.work);
+    given(0, long(cost))
+}

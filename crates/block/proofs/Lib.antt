@@ -6,3 +6,4 @@ pub mod Walk
 pub mod BlockChecks
 pub mod Laws
 pub mod PlacesNoted
+pub mod Cuts

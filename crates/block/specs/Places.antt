@@ -3,7 +3,8 @@ use Prim.Native.Nat.{ℕ, zero, suc, _+_, _<_}
 use mathlib.Core.Path.{_≡_}
 use mathlib.Core.List.{List}
 use lib.ListN.{getD, drop}
-use Rattle.meaning.specs.Block.{lengthField, readsField, matrixOf}
+use Rattle.meaning.specs.Numbers.{run}
+use Rattle.meaning.specs.Block.{Read, lengthField, readsField, cellAt, matrixOf}
 use Rattle.meaning.specs.Active.{read, end}
 
 -- the byte at which read r starts
@@ -20,3 +21,7 @@ pub record Noted (b start first after : List ℕ) : Type 0 where
   pub starts : (r : ℕ) → r < readsField b → getD start r 0 ≡ cellsStart b r
   pub firsts : (r : ℕ) → r < readsField b → getD first r 0 ≡ read (matrixOf b) r .first
   pub ends : (r : ℕ) → r < readsField b → getD after r 0 ≡ end (read (matrixOf b) r)
+
+-- a read by its first column and the first n cells of its part of the block
+abbrev pub readFrom : ℕ → ℕ → List ℕ → Read
+readFrom from n cells = record { first = from; cells = run 0 n (cellAt 2 cells) }

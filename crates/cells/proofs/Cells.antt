@@ -2,30 +2,22 @@
 use Prim.Native.Nat.{ℕ, _+_, _-_, _*_, _≤_, _<_}
 use borrow.Author.Tests.{eqb-true, eqb-false}
 use lib.Dec.{eqb}
-use lib.ListN.{length, getD, set, take, drop, length-take, length-drop}
+use lib.ListN.{length, getD, set, take, drop}
 use lib.Seq.{getD-set-same, getD-set-other}
 use mathlib.Core.Bool.{Bool, true, false}
 use mathlib.Core.List.{List, []}
 use mathlib.Core.Logic.{_≢_}
-use mathlib.Core.Path.{_≡_, refl, sym, ap, ap₂, _∙_, subst}
+use mathlib.Core.Path.{_≡_, refl, sym, ap, _∙_, subst}
 use native.Mathlib.Nat.{not-suc-le-zero}
 use native.Mathlib.Omega.{arith}
-use Rattle.meaning.specs.Block.{readsField, cellCount, cellsPart, cellAt, afterReads, readsPart, matrixOf}
-use Rattle.meaning.specs.Active.{read, end, active, at}
+use Rattle.meaning.specs.Block.{cellAt, matrixOf}
+use Rattle.meaning.specs.Active.{read, at}
 use Rattle.meaning.specs.Charge.{Letter}
-use Rattle.meaning.specs.Refusals.{badCell, badCells}
+use Rattle.meaning.specs.Refusals.{badCell}
 use Rattle.meaning.proofs.Closing.{active-cells}
-use Rattle.meaning.proofs.Refusals.{or-false-left}
-use Rattle.meaning.proofs.Formed.{Formed, formed}
-use Rattle.block.specs.Places.{cellsStart}
-use Rattle.block.proofs.CellChecks.{none-at}
-use Rattle.block.proofs.Laws.{read-sound, read-first, read-end, read-inside, cells-part, cells-inside, cell-is}
 use Rattle.column.specs.Sums.{pairAt, LightPairs}
+use Rattle.block.proofs.Cuts.{cut-noted, cut-cell}
 use Rattle.cells.specs.Laid.{Laid}
-
--- a place below n in the part of n bytes from s on
-part-within : (b : List ℕ) (s n i : ℕ) → s + n ≤ length b → i < n → i < length (take (s + n - s) (drop s b))
-part-within b s n i h l = simp (length-take, length-drop) (omega arith)
 
 -- the read's cells start at s, and it goes from column `from` to the column before `to`: cell j - from of that part is its cell at column j
 pub record Here (b : List ℕ) (r j s from to : ℕ) : Type 0 where
@@ -37,40 +29,25 @@ pub record Here (b : List ℕ) (r j s from to : ℕ) : Type 0 where
   pub cell-good : badCell (cellAt 2 (take (s + 2 * (to - from) - s) (drop s b)) (j - from)) ≡ false
   pub cell-at : cellAt 2 (take (s + 2 * (to - from) - s) (drop s b)) (j - from) ≡ at (read (matrixOf b) r) j
 
-pub here : (b : List ℕ) → Formed 1 b → (r j : ℕ) → r < readsField b → active (read (matrixOf b) r) j ≡ true
-    → (s from to : ℕ) → s ≡ cellsStart b r → from ≡ read (matrixOf b) r .first → to ≡ end (read (matrixOf b) r) → Here b r j s from to
-unfolding badCells
-here b f r j l a s from to es ef et =
-    let M = matrixOf b in
-    let p : List ℕ = afterReads r (readsPart b) in
-    let c = active-cells (read M r) j a in
-    let begun : read M r .first ≤ j = c .1 in
-    let goes : j < end (read M r) = c .2 in
-    let n : s + 2 * (to - from) - s ≡ 2 * (end (read M r) - read M r .first) = omega arith in
-    let part : take (s + 2 * (to - from) - s) (drop s b) ≡ cellsPart p = ap₂ (λ (n k : ℕ). take n (drop k b)) n es ∙ cells-part b f r l in
-    let inside : s + 2 * (to - from) ≤ length b = omega (arith, cells-inside b f r l) in
-    let i : j - from ≡ j - read M r .first = ap (λ (k : ℕ). j - k) ef in
-    let cell : cellAt 2 (take (s + 2 * (to - from) - s) (drop s b)) (j - from) ≡ cellAt 2 (cellsPart p) (j - read M r .first) = ap₂ (cellAt 2) part i in
-    record {
-      begun = omega arith;
-      goes-on = omega arith;
-      few = omega (arith, read-inside b f r l, f .head .few-columns);
-      inside = inside;
-      within = part-within b s (2 * (to - from)) (2 * (j - from) + 1) inside (omega arith);
-      cell-good =
-          ap badCell cell
-          ∙ none-at (cellCount 2 p) (λ k. badCell (cellAt 2 (cellsPart p) k)) (or-false-left _ _ (read-sound b f r l .celled)) (j - read M r .first)
-          (omega (arith, read-first b f r l, read-end b f r l));
-      cell-at = cell ∙ sym (cell-is b f r l j begun goes);
-    }
-
 -- the i-th read of the list
 pub here-listed : {b start first after list : List ℕ} {p j : ℕ} → Laid b start first after list p j → (i : ℕ) → i < p
     → Here b (getD list i 0) j (getD start (getD list i 0) 0) (getD first (getD list i 0) 0) (getD after (getD list i 0) 0)
 here-listed {b} {start} {first} {after} {list} {p} {j} laid i l =
     let r = getD list i 0 in
     let lt = laid .each-read i l in
-    here b (formed 1 b (laid .block-good)) r j lt (laid .each-active i l) _ _ _ (laid .noted .starts r lt) (laid .noted .firsts r lt) (laid .noted .ends r lt)
+    let c = cut-noted (laid .block-good) (laid .noted) r lt in
+    let a = active-cells (read (matrixOf b) r) j (laid .each-active i l) in
+    let from : getD first r 0 ≤ j = omega (arith, laid .noted .firsts r lt, a .1) in
+    let to : j < getD after r 0 = omega (arith, laid .noted .ends r lt, a .2) in
+    record {
+      begun = from;
+      goes-on = to;
+      few = omega (arith, c .within, c .few);
+      inside = c .inside;
+      within = omega (arith, c .half);
+      cell-good = c .cells-good (j - getD first r 0) (omega (arith, c .half));
+      cell-at = cut-cell c j from to;
+    }
 
 -- the first n pairs are those that f gives, and none is above the limit
 pub record PairsTo (w : List (List ℕ)) (n : ℕ) (f : ℕ → List ℕ) (lim : ℕ) : Type 0 where

@@ -45,6 +45,7 @@ pub fn prepare(
         seen += b;
         i += 1;
     }
+    // the others are told from the first shared read: it turns all digits
     turn[head] = column::entries(seen) - 1;
     seen
 }

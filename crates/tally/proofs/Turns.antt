@@ -16,10 +16,11 @@ use Rattle.meaning.specs.Division.{Side}
 use Rattle.meaning.specs.Charge.{Letter}
 use Rattle.meaning.specs.Refusals.{badCell}
 use Rattle.meaning.proofs.Lists.{length-run, getD-run}
+use Rattle.block.specs.Places.{readFrom}
 use Rattle.block.proofs.Fields.{byte-is}
 use Rattle.block.proofs.Laws.{good}
 use Rattle.column.specs.Sums.{sideOf}
-use Rattle.tally.specs.Tally.{unit, tallyOf, place, readFrom, ReadAdded}
+use Rattle.tally.specs.Tally.{unit, tallyOf, place, ReadAdded}
 
 hole-adds : (l : Letter) → tallyOf l hole ≡ 0
 unfolding tallyOf

@@ -5,8 +5,8 @@ use mathlib.Core.List.{List}
 use mathlib.Core.Path.{_≡_}
 use lib.Dec.{eqb}
 use lib.ListN.{length, getD}
-use Rattle.meaning.specs.Numbers.{bit, sumTo, run}
-use Rattle.meaning.specs.Block.{Cell, Read, Matrix, columnsField, readsField, cellAt, matrixOf}
+use Rattle.meaning.specs.Numbers.{bit, sumTo}
+use Rattle.meaning.specs.Block.{Cell, Read, Matrix, columnsField, readsField, matrixOf}
 use Rattle.meaning.specs.Active.{count, read, at}
 use Rattle.meaning.specs.Division.{Side, Division}
 use Rattle.meaning.specs.Charge.{Letter, W}
@@ -37,10 +37,6 @@ pub record Tallied (b sides tally : List ℕ) : Type 0 where
   pub light : (r j : ℕ) → r < readsField b → at (read (matrixOf b) r) j .weight ≤ 255
   pub room : 4 * columnsField b ≤ length tally
   pub each : (j : ℕ) → j < columnsField b → (s : Side) (l : Letter) → getD tally (place j s l) 0 ≡ talliedTo (matrixOf b) (divisionOf sides) (readsField b) j s l
-
--- a read by its first column and the first n cells of its part of the block
-abbrev pub readFrom : ℕ → ℕ → List ℕ → Read
-readFrom from n cells = record { first = from; cells = run 0 n (cellAt 2 cells) }
 
 -- one read more, on a side
 abbrev pub ReadAdded : Read → Side → List ℕ → List ℕ → Type 0

@@ -11,9 +11,9 @@ ghost use Rattle.meaning.specs.Division.{Side};
 ghost use Rattle.meaning.specs.Charge.{Letter, W};
 ghost use Rattle.meaning.specs.Answer.{divisionOf};
 ghost use Rattle.meaning.specs.Refusals.{badCell, blockRefusal};
-ghost use Rattle.block.specs.Places.{Noted};
+ghost use Rattle.block.specs.Places.{Noted, readFrom};
 ghost use Rattle.column.specs.Sums.{pairAt, arrayOf, sideOf};
-ghost use Rattle.tally.specs.Tally.{unit, place, Tallied, readFrom, ReadAdded, Lettered};
+ghost use Rattle.tally.specs.Tally.{unit, place, Tallied, ReadAdded, Lettered};
 
 // The letters that are reported of the two sides at a column, and how many entries differ from their side's letter.
 pub struct Letters {

@@ -8,7 +8,8 @@ use Rattle.meaning.specs.Division.{Side}
 use Rattle.meaning.specs.Charge.{Letter}
 use Rattle.meaning.specs.Answer.{divisionOf}
 use Rattle.tally.specs.Tally.{talliedTo, place}
-use Rattle.tally.proofs.Walk.{Cut, cut-noted, light, Upto, upto-none, upto-more, upto-small}
+use Rattle.block.proofs.Cuts.{Cut, cut-noted}
+use Rattle.tally.proofs.Walk.{light, Upto, upto-none, upto-more, upto-small}
 use Rattle.tally.proofs.tally.Statement.{statement}
 use Rattle.tally.proofs.tally.Tie as tie
 

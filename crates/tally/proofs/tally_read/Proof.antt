@@ -7,7 +7,8 @@ use lib.ListN.{length, getD, length-set}
 use Rattle.meaning.specs.Block.{cellAt}
 use Rattle.meaning.specs.Refusals.{badCell}
 use Rattle.column.specs.Sums.{sideOf}
-use Rattle.tally.specs.Tally.{unit, readFrom, ReadAdded}
+use Rattle.block.specs.Places.{readFrom}
+use Rattle.tally.specs.Tally.{unit, ReadAdded}
 use Rattle.tally.proofs.Turns.{letter-known, cell-more, cell-room, none-added}
 use Rattle.tally.proofs.tally_read.Statement.{statement}
 use Rattle.tally.proofs.tally_read.Tie as tie

@@ -1,14 +1,14 @@
 -- The answer block: sides, then letters column by column, then the head.
 use Prim.Native.Nat.{ℕ, suc, _+_, _-_, _*_, _≤_, _<_}
-use mathlib.Core.Path.{_≡_, refl, sym, ap, ap₂, _∙_, subst, fun-ext}
+use mathlib.Core.Path.{_≡_, refl, sym, ap, ap₂, _∙_, fun-ext}
 use mathlib.Core.Bool.{Bool, true, false}
 use mathlib.Core.List.{List, [], _∷_, _++_}
 use native.Mathlib.Nat.{add-zero, zero-add}
 use native.Mathlib.Numerals.{add-one}
 use native.Mathlib.Decide.{decLe}
 use native.Mathlib.Omega.{arith}
-use lib.ListN.{length, getD, take, drop, set, length-drop, List·getD-eq-default, take-append-drop}
-use lib.Seq.{length-take-le, drop-at, take-at, drop-drop, ext-getD}
+use lib.ListN.{length, take, drop, set, length-drop, List·getD-eq-default, take-append-drop}
+use lib.Seq.{length-take-le, drop-at, take-at, drop-drop}
 use lib.Dec.{eqb}
 use Rattle.meaning.specs.Numbers.{bit, run, has}
 use Rattle.meaning.specs.Block.{Matrix}
@@ -83,13 +83,6 @@ sides-division M = fun-ext (λ r. go r (decLe (suc r) (count M)))
     go r (no h) =
         ap (λ (x : ℕ). eqb x 1) (List·getD-eq-default (run 0 (count M) (λ q. bit (d q))) 0 (let e : length (run 0 (count M) (λ q. bit (d q))) ≡ count M = length-run 0 (count M) (λ q. bit (d q)) in omega arith))
         ∙ sym (out r h)
-
--- sides that are bits of a division, n of them
-pub sides-list : (M : Matrix) (sides : List ℕ) (d : Division) → length sides ≡ count M → ((r : ℕ) → getD sides r 0 ≡ bit (d r)) → sides ≡ sidesOf M d
-unfolding sidesOf
-sides-list M sides d e h =
-    ext-getD 0 sides (run 0 (count M) (λ r. bit (d r))) (e ∙ sym (length-run 0 (count M) (λ r. bit (d r))))
-    (λ r l. h r ∙ sym (getD-run 0 (count M) (λ q. bit (d q)) r 0 (subst (λ (x : ℕ). r < x) e l) ∙ ap (λ (k : ℕ). bit (d k)) (zero-add r)))
 
 -- all parts together
 pub answered : (M : Matrix) (n m cost flipped : ℕ) (old : List ℕ) → n ≡ count M → m ≡ M .columns → 17 + n + 2 * m ≤ length old

@@ -18,8 +18,8 @@ use Rattle.meaning.proofs.Formed.{Accepted, formed}
 use Rattle.meaning.proofs.Rooms.{table-part}
 use Rattle.meaning.proofs.Call.{call-refuses}
 use Rattle.meaning.proofs.Demand1.{room, output, given-only, demand1-accepted}
-use Rattle.solve.specs.Ready.{ThinColumns}
-use Rattle.solve.proofs.Sizes.{columns-are, reads-are}
+use Rattle.solve.specs.Piling.{ThinColumns}
+use Rattle.table.proofs.Sizes.{columns-are, reads-are}
 
 -- numbers other than 0
 pub refused-number : (x : Numbers) (n s : ℕ) → x ≡ record { number = n; second = s } → 0 < n → x .number ≡ 0 → ⊥

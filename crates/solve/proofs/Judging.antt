@@ -15,7 +15,7 @@ use Rattle.meaning.specs.Call.{over}
 use Rattle.meaning.specs.Judge.{verdict, judges, judging}
 use Rattle.meaning.proofs.Demand1.{none, given-only}
 use Rattle.meaning.proofs.Judging.{judging-accepts, judging-refuses}
-use Rattle.solve.specs.Ready.{ThinColumns}
+use Rattle.solve.specs.Piling.{ThinColumns}
 use Rattle.solve.proofs.Calls.{refused-number, block-refusal, crowded-refusal, work-refusal, all-pass}
 
 -- a refusal is the judging's

@@ -1,10 +1,4 @@
-pub mod Pass
-pub mod Sizes
-pub mod Columns
-pub mod Back
-pub mod Filled
 pub mod Answered
-pub mod WayBack
 pub mod Lettering
 pub mod Piles
 pub mod Calls

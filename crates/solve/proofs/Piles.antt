@@ -20,8 +20,9 @@ use Rattle.pile.specs.Spans.{heightAt, listAt, Spanned}
 use Rattle.pile.specs.Lists.{Holds}
 use Rattle.pile.proofs.LawsHeights.{height-is, heights-low, crowded-is, most-is}
 use Rattle.pile.proofs.LawsClosing.{held-is}
-use Rattle.solve.specs.Ready.{Ready, Piling, ThinColumns}
-use Rattle.solve.proofs.Sizes.{max-below, columns-are, reads-are}
+use Rattle.table.specs.Ready.{Ready}
+use Rattle.solve.specs.Piling.{Piling, ThinColumns}
+use Rattle.table.proofs.Sizes.{max-below, columns-are, reads-are}
 
 -- a column that is found is one of those looked at
 pub crowded-lt : (height : ℕ → ℕ) (j n i : ℕ) → record { number = 9; second = i } ≡ crowded height j n → i < j + n

@@ -10,7 +10,7 @@ use Rattle.solve.specs.declared.Crowding.{Crowding}
 use Rattle.solve.specs.declared.Crowding.the-variants as found
 use Rattle.solve.specs.declared.Outcome.{Outcome}
 use Rattle.solve.specs.declared.Outcome.the-variants.{Crowded, Work, Output, Cost}
-use Rattle.solve.specs.Ready.{ThinColumns}
+use Rattle.solve.specs.Piling.{ThinColumns}
 
 -- check 9 applies with this column, or passes with this T
 abbrev pub ColumnsFound : List ℕ → Crowding → Type 0

@@ -1,206 +1,21 @@
-// The solver: the table column by column, the way back, letters and flips, the answer block.
+// The solver: the checks 9, 10 and 11, the table, the sides, letters and flips, the answer block.
 ghost use mathlib.Core.Path.{_≡_};
 ghost use mathlib.Core.Bool.{true, false};
 ghost use Prim.Native.Nat.{ℕ, _+_, _-_, _*_, _≤_, _<_, min};
 ghost use lib.ListN.{length, getD, take, drop, replicate};
-ghost use Rattle.meaning.specs.Numbers.{bit};
 ghost use Rattle.meaning.specs.Block.{columnsField, readsField, matrixOf};
 ghost use Rattle.meaning.specs.Active.{used, entries};
-ghost use Rattle.meaning.specs.Closing.{activeReads, closingAt};
-ghost use Rattle.meaning.specs.Division.{firstOver, allZero};
 ghost use Rattle.meaning.specs.Charge.{charge, leastCost};
 ghost use Rattle.meaning.specs.Letters.{general, haplotypes, flips};
 ghost use Rattle.meaning.specs.Table.{column, table};
-ghost use Rattle.meaning.specs.Answer.{sidesOf, divisionOf, lettersOf, answer};
+ghost use Rattle.meaning.specs.Answer.{divisionOf, lettersOf, answer};
 ghost use Rattle.meaning.specs.Refusals.{blockRefusal};
 ghost use Rattle.meaning.specs.Call.{over, laid, call};
-ghost use Rattle.meaning.specs.Rule.{ruleColumn, columnOf, entryFor, leastEntry, wayBack};
+ghost use Rattle.meaning.specs.Rule.{columnOf};
 ghost use Rattle.block.specs.Places.{Noted};
-ghost use Rattle.solve.specs.Ready.{Ready, Piling, ThinColumns, sharedBefore, TakenBefore};
+ghost use Rattle.table.specs.Ready.{Ready};
+ghost use Rattle.solve.specs.Piling.{Piling, ThinColumns};
 ghost use Rattle.solve.specs.Outcomes.{ColumnsFound, resultOf};
-
-fn wide(x: u16) -> usize
-    ensures { λ r. ⌜ r ≡ x ⌝ }
-{
-    x as usize
-}
-
-// What column j takes over: nothing at column 0, else for each index of the s reads that it shares with the column before that one's least entry.
-fn take_over(
-    block: &[u8],
-    start: &[u32],
-    first: &[u16],
-    end: &[u16],
-    count: &[u16],
-    lists: &[u16],
-    j: usize,
-    t: usize,
-    s: usize,
-    work: &[u32],
-    taken: &mut [u32],
-)
-    requires { ⌜ Ready (now block) (now start) (now first) (now end) (now count) (now lists) ⌝ }
-    requires { ⌜ (j < columnsField (now block)) × (t ≡ entries (matrixOf (now block))) × (s ≡ length (sharedBefore (matrixOf (now block)) j)) ⌝ }
-    requires { ⌜ (t ≤ length (now taken)) × (columnsField (now block) * t ≤ length (now work)) ⌝ }
-    ensures { λ _. ⌜ TakenBefore (matrixOf (now (block .entry))) j (now (work .entry)) (now (taken .exit)) ⌝ }
-{
-    if j == 0 {
-        taken[0] = 0;
-        return;
-    }
-    let i = j - 1;
-    let q = wide(count[i]);
-    let from = i * t;
-    let to = from + column::entries(q);
-    column::carry(&work[from..to], column::entries(s), taken);
-}
-
-// Column j by the rule, from what the column before it holds: all its entries, written through its part of the work room.
-fn column_by_rule(
-    block: &[u8],
-    start: &[u32],
-    first: &[u16],
-    end: &[u16],
-    count: &[u16],
-    lists: &[u16],
-    j: usize,
-    t: usize,
-    taken: &mut [u32],
-    work: &mut [u32],
-)
-    requires { ⌜ Ready (now block) (now start) (now first) (now end) (now count) (now lists) ⌝ }
-    requires { ⌜ (j < columnsField (now block)) × (t ≡ entries (matrixOf (now block))) ⌝ }
-    requires { ⌜ (t ≤ length (now taken)) × (columnsField (now block) * t ≤ length (now work)) ⌝ }
-    requires { ⌜ (0 < j → (k : ℕ) → getD (columnOf (matrixOf (now block)) (now work) (j - 1)) k 0 ≤ 4000000000) ⌝ }
-    ensures { λ _. ⌜ now (work .exit) ≡ laid (j * t) (ruleColumn charge (matrixOf (now (block .entry))) j (columnOf (matrixOf (now (block .entry))) (now (work .entry)) (j - 1))) (now (work .entry)) ⌝ }
-{
-    let a = 12 * j;
-    let e = a + 12;
-    let list = &lists[a..e];
-    let p = wide(count[j]);
-    let mut w = [[0u32; 2]; 12];
-    let mut turn = [0usize; 12];
-    let s = cells::prepare(block, start, first, end, list, p, j, &mut w, &mut turn);
-    take_over(block, start, first, end, count, lists, j, t, s, work, taken);
-    let from = j * t;
-    let to = from + t;
-    column::fill(&w, &turn, p, taken, &mut work[from..to]);
-}
-
-// The table, column by column.
-fn fill_table(
-    block: &[u8],
-    start: &[u32],
-    first: &[u16],
-    end: &[u16],
-    count: &[u16],
-    lists: &[u16],
-    m: usize,
-    t: usize,
-    taken: &mut [u32],
-    work: &mut [u32],
-)
-    requires { ⌜ Ready (now block) (now start) (now first) (now end) (now count) (now lists) ⌝ }
-    requires { ⌜ (m ≡ columnsField (now block)) × (t ≡ entries (matrixOf (now block))) ⌝ }
-    requires { ⌜ (t ≤ length (now taken)) × (m * t ≤ length (now work)) ⌝ }
-    ensures { λ _. ⌜ now (work .exit) ≡ over (table charge (matrixOf (now (block .entry)))) (now (work .entry)) ⌝ }
-{
-    let mut j: usize = 0;
-    while j < m {
-        column_by_rule(block, start, first, end, count, lists, j, t, taken, work);
-        j += 1;
-    }
-}
-
-// One column of the way back: the reads that close at column j get the first sides in closing order that have the least entry.
-fn back_at(
-    block: &[u8],
-    start: &[u32],
-    first: &[u16],
-    end: &[u16],
-    count: &[u16],
-    lists: &[u16],
-    j: usize,
-    t: usize,
-    work: &[u32],
-    sides: &mut [u8],
-)
-    requires { ⌜ Ready (now block) (now start) (now first) (now end) (now count) (now lists) ⌝ }
-    requires { ⌜ (j < columnsField (now block)) × (t ≡ entries (matrixOf (now block))) ⌝ }
-    requires { ⌜ (columnsField (now block) * t ≤ length (now work)) × (readsField (now block) ≤ length (now sides)) ⌝ }
-    requires { ⌜ ((r : ℕ) → getD (now sides) r 0 ≤ 1) ⌝ }
-    ensures { λ _. ⌜ ((r : ℕ) → getD (now (sides .exit)) r 0 ≡ bit (firstOver (closingAt (matrixOf (now (block .entry))) j) (entryFor (activeReads (matrixOf (now (block .entry))) j) (columnOf (matrixOf (now (block .entry))) (now (work .entry)) j)) (divisionOf (now (sides .entry))) r)) ⌝ }
-{
-    let a = 12 * j;
-    let e = a + 12;
-    let list = &lists[a..e];
-    let p = wide(count[j]);
-    let s = back::going_on(list, p, end, j);
-    let from = j * t;
-    let to = from + column::entries(p);
-    back::settle(&work[from..to], list, p, s, sides);
-}
-
-// All reads on side 0.
-fn clear(sides: &mut [u8])
-    ensures { λ _. ⌜ ((r : ℕ) → getD (now (sides .exit)) r 0 ≡ 0) ⌝ }
-{
-    let mut r: usize = 0;
-    while r < sides.len() {
-        sides[r] = 0;
-        r += 1;
-    }
-}
-
-// The way back through all columns, from all reads on side 0.
-fn way_back(
-    block: &[u8],
-    start: &[u32],
-    first: &[u16],
-    end: &[u16],
-    count: &[u16],
-    lists: &[u16],
-    m: usize,
-    t: usize,
-    work: &[u32],
-    sides: &mut [u8],
-)
-    requires { ⌜ Ready (now block) (now start) (now first) (now end) (now count) (now lists) ⌝ }
-    requires { ⌜ (m ≡ columnsField (now block)) × (t ≡ entries (matrixOf (now block))) ⌝ }
-    requires { ⌜ (m * t ≤ length (now work)) × (readsField (now block) ≡ length (now sides)) ⌝ }
-    requires { ⌜ ((r : ℕ) → getD (now sides) r 0 ≡ 0) ⌝ }
-    ensures { λ _. ⌜ now (sides .exit) ≡ sidesOf (matrixOf (now (block .entry))) (wayBack (matrixOf (now (block .entry))) (columnOf (matrixOf (now (block .entry))) (now (work .entry))) m allZero) ⌝ }
-{
-    let mut j = m;
-    while j > 0 {
-        j -= 1;
-        back_at(block, start, first, end, count, lists, j, t, work, sides);
-    }
-}
-
-// The least entry of the last column.
-pub fn least_last(
-    block: &[u8],
-    start: &[u32],
-    first: &[u16],
-    end: &[u16],
-    count: &[u16],
-    lists: &[u16],
-    m: usize,
-    t: usize,
-    work: &[u32],
-) -> u32
-    requires { ⌜ Ready (now block) (now start) (now first) (now end) (now count) (now lists) ⌝ }
-    requires { ⌜ (m ≡ columnsField (now block)) × (t ≡ entries (matrixOf (now block))) ⌝ }
-    requires { ⌜ m * t ≤ length (now work) ⌝ }
-    ensures { λ r. ⌜ r ≡ leastEntry (activeReads (matrixOf (now (block .entry))) (m - 1)) (columnOf (matrixOf (now (block .entry))) (now (work .entry)) (m - 1)) ⌝ }
-{
-    let j = m - 1;
-    let p = wide(count[j]);
-    let from = j * t;
-    let to = from + column::entries(p);
-    back::least_from(&work[from..to], 0, 1)
-}
 
 // The letters of both haplotypes, behind the sides that stand in the output; and the number of flips. The tally is room to work in, of zeros.
 fn write_letters(
@@ -234,28 +49,6 @@ fn write_letters(
     flips
 }
 
-// The sides of all reads, by the way back.
-pub fn write_sides(
-    block: &[u8],
-    start: &[u32],
-    first: &[u16],
-    end: &[u16],
-    count: &[u16],
-    lists: &[u16],
-    m: usize,
-    t: usize,
-    work: &[u32],
-    sides: &mut [u8],
-)
-    requires { ⌜ Ready (now block) (now start) (now first) (now end) (now count) (now lists) ⌝ }
-    requires { ⌜ (m ≡ columnsField (now block)) × (t ≡ entries (matrixOf (now block))) ⌝ }
-    requires { ⌜ (m * t ≤ length (now work)) × (readsField (now block) ≡ length (now sides)) ⌝ }
-    ensures { λ _. ⌜ now (sides .exit) ≡ sidesOf (matrixOf (now (block .entry))) (wayBack (matrixOf (now (block .entry))) (columnOf (matrixOf (now (block .entry))) (now (work .entry))) m allZero) ⌝ }
-{
-    clear(sides);
-    way_back(block, start, first, end, count, lists, m, t, work, sides);
-}
-
 // The answer block of a table that is filled, and its cost.
 fn write_answer(
     block: &[u8],
@@ -280,7 +73,7 @@ fn write_answer(
     ensures { λ _. ⌜ now (out .exit) ≡ over (answer general (matrixOf (now (block .entry)))) (now (out .entry)) ⌝ }
 {
     let e = 17 + n;
-    write_sides(
+    sides::write_sides(
         block,
         start,
         first,
@@ -293,7 +86,7 @@ fn write_answer(
         &mut out[17..e],
     );
     let flips = write_letters(block, start, first, end, m, n, tally, out);
-    let cost = least_last(block, start, first, end, count, lists, m, t, work);
+    let cost = sides::least_last(block, start, first, end, count, lists, m, t, work);
     answer::put_head(out, cost, flips, n, m);
     cost
 }
@@ -350,7 +143,7 @@ pub fn tabled(
     ensures { λ _. ⌜ now (work .exit) ≡ over (table charge (matrixOf (now (block .entry)))) (now (work .entry)) ⌝ }
 {
     pile::lists(first, end, n, m, count, lists);
-    fill_table(block, start, first, end, count, lists, m, t, taken, work);
+    table::fill_table(block, start, first, end, count, lists, m, t, taken, work);
 }
 
 // What the solver finds in a block that passes the checks 1 to 8: 9 with the column, 10 or 11 with the size needed, or the cost.

@@ -9,7 +9,7 @@ use Rattle.meaning.specs.Division.{allZero}
 use Rattle.meaning.specs.Charge.{charge, leastCost, best}
 use Rattle.meaning.specs.Answer.{sidesOf}
 use Rattle.meaning.specs.Rule.{columnOf, leastEntry, wayBack}
-use Rattle.solve.proofs.Sizes.{columns-are, ready-formed, ready-placed}
+use Rattle.table.proofs.Sizes.{columns-are, ready-formed, ready-placed}
 use Rattle.solve.proofs.Answered.{cost-is, sides-are}
 use Rattle.verdict.specs.Stages.{Filled}
 

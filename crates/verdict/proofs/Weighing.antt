@@ -16,7 +16,7 @@ use Rattle.meaning.proofs.Sums.{column-sides}
 use Rattle.meaning.proofs.Bounds.{against-le}
 use Rattle.meaning.proofs.Formed.{formed}
 use Rattle.column.proofs.Laws.{leaf-more}
-use Rattle.solve.proofs.Sizes.{reads-are}
+use Rattle.table.proofs.Sizes.{reads-are}
 use Rattle.verdict.specs.declared.ColumnAt.{ColumnAt}
 use Rattle.verdict.specs.Stated.{StatedTally, Stands, againstOf}
 use Rattle.verdict.proofs.AtColumn.{against-at}

@@ -10,7 +10,7 @@ use Rattle.meaning.specs.Charge.{charge}
 use Rattle.meaning.specs.Table.{column}
 use Rattle.meaning.specs.Rule.{columnOf}
 use Rattle.meaning.specs.Judge.{malformed, otherCounts, unknownMark, falseDash, wrongCost, notLeast}
-use Rattle.solve.specs.Ready.{Ready}
+use Rattle.table.specs.Ready.{Ready}
 
 -- a block that is ready, its m, n and T, and its table in the work room
 pub record Filled (b start first after count lists : List ℕ) (m n t : ℕ) (work : List ℕ) : Type 0 where

@@ -10,7 +10,7 @@ ghost use Rattle.meaning.specs.Active.{used};
 ghost use Rattle.meaning.specs.Letters.{disagreement};
 ghost use Rattle.meaning.specs.Judge.{statedReads, statedColumns, statedDivision, statedHaplotypes, malformed, unknownMark, falseDash, wrongCost, verdict, judging};
 ghost use Rattle.meaning.specs.Refusals.{blockRefusal};
-ghost use Rattle.solve.specs.Ready.{Piling, ThinColumns};
+ghost use Rattle.solve.specs.Piling.{Piling, ThinColumns};
 ghost use Rattle.verdict.specs.Judgements.{judgementNumbers, judgedOf};
 ghost use Rattle.verdict.specs.Stated.{Sized, StatedTally, Stands, dashOf, againstOf, otherOf, otherLetters};
 ghost use Rattle.verdict.specs.Stages.{Filled, Counted, Marked, Least};
@@ -248,7 +248,7 @@ fn compared(
     requires { ⌜ StatedTally (now block) (now answer) (now tally) ⌝ }
     ensures { λ r. ⌜ judgementNumbers r ≡ verdict (now (block .entry)) (now (answer .entry)) ⌝ }
 {
-    solve::write_sides(block, start, first, end, count, lists, m, t, work, sides);
+    sides::write_sides(block, start, first, end, count, lists, m, t, work, sides);
     let e = 17 + n;
     if other_sides(sides, &answer[17..e]) {
         return Judgement::OtherAnswer;
@@ -283,7 +283,7 @@ fn weighed(
     if wrong_cost(block, m, n, tally, answer) {
         return Judgement::WrongCost;
     }
-    let least = solve::least_last(block, start, first, end, count, lists, m, t, work);
+    let least = sides::least_last(block, start, first, end, count, lists, m, t, work);
     if (least as usize) < block::long_at(answer, 5) {
         return Judgement::NotLeast(least);
     }

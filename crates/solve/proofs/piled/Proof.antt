@@ -7,7 +7,7 @@ use Rattle.meaning.specs.Refusals.{crowded}
 use Rattle.pile.specs.Spans.{heightAt}
 use Rattle.pile.specs.declared.Pile.the-variants.{Most}
 use Rattle.pile.specs.Piles.{pileNumbers, pileMost}
-use Rattle.solve.specs.Ready.{Piling}
+use Rattle.solve.specs.Piling.{Piling}
 use Rattle.solve.proofs.Piles.{few, ends-inside, piling-counts, crowded-lt, crowded-found, thin-found}
 use borrow.Author.Needs.{needs}
 use Rattle.solve.proofs.piled.Statement.{statement}

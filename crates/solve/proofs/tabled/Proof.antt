@@ -1,6 +1,6 @@
 use native.Mathlib.Nat.{le-trans, le-of-eq}
 use mathlib.Core.Path.{sym}
-use Rattle.solve.specs.Ready.{Ready}
+use Rattle.table.specs.Ready.{Ready}
 use Rattle.solve.proofs.Piles.{few, ends-inside, entries-room, heights-few, piled-ready}
 use borrow.Author.Needs.{needs}
 use Rattle.solve.proofs.tabled.Statement.{statement}

@@ -8,7 +8,7 @@ use Rattle.meaning.specs.Block.{matrixOf}
 use Rattle.meaning.specs.Charge.{charge, leastCost, best}
 use Rattle.meaning.specs.Answer.{sidesOf}
 use Rattle.meaning.specs.Call.{laid}
-use Rattle.solve.proofs.Sizes.{columns-are, reads-are, ready-formed, ready-placed}
+use Rattle.table.proofs.Sizes.{columns-are, reads-are, ready-formed, ready-placed}
 use Rattle.solve.proofs.Answered.{sides-laid, sides-size, output-length, cost-is, sides-are, finished}
 use borrow.Author.Needs.{needs}
 use Rattle.solve.proofs.write_answer.Statement.{statement}

@@ -6,7 +6,7 @@ use Rattle.meaning.specs.Block.{columnsField, matrixOf}
 use Rattle.meaning.specs.Answer.{divisionOf}
 use Rattle.meaning.proofs.Formed.{Formed, formed}
 use Rattle.tally.specs.Tally.{Lettered}
-use Rattle.solve.proofs.Sizes.{columns-are}
+use Rattle.table.proofs.Sizes.{columns-are}
 use Rattle.solve.proofs.Lettering.{sides-length, sides-lettered, Written, written-none, written-more, written-all}
 use borrow.Author.Needs.{needs}
 use Rattle.solve.proofs.write_letters.Statement.{statement}

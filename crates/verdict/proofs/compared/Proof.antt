@@ -2,7 +2,7 @@ use mathlib.Core.Path.{_≡_, sym, _∙_}
 use Rattle.meaning.specs.Block.{matrixOf}
 use Rattle.meaning.specs.Charge.{charge, best}
 use Rattle.meaning.specs.Answer.{sidesOf}
-use Rattle.solve.proofs.Sizes.{columns-are, reads-are}
+use Rattle.table.proofs.Sizes.{columns-are, reads-are}
 use Rattle.verdict.proofs.Tabled.{our-sides}
 use Rattle.verdict.proofs.Ours.{other-sides-told, same-sides-told}
 use Rattle.verdict.proofs.Verdicts.{gives-56, gives-57}

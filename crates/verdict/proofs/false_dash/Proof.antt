@@ -2,7 +2,7 @@ use Prim.Native.Nat.{_-_}
 use mathlib.Core.Path.{sym, _∙_}
 use Rattle.meaning.specs.Block.{matrixOf}
 use Rattle.meaning.specs.Judge.{falseDashAt}
-use Rattle.solve.proofs.Sizes.{columns-are}
+use Rattle.table.proofs.Sizes.{columns-are}
 use Rattle.verdict.specs.Stated.{dashOf}
 use Rattle.verdict.proofs.Searched.{Searched, searched-none, searched-all}
 use Rattle.verdict.proofs.AtColumn.{dash-at, dash-columns, eitherSide, found-first, found-second, found-neither}

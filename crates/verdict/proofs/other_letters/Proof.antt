@@ -2,7 +2,7 @@ use Prim.Native.Nat.{_-_}
 use mathlib.Core.Path.{sym, _∙_}
 use Rattle.meaning.specs.Block.{matrixOf}
 use Rattle.verdict.specs.Stated.{otherOf, otherLetterAt}
-use Rattle.solve.proofs.Sizes.{columns-are}
+use Rattle.table.proofs.Sizes.{columns-are}
 use Rattle.verdict.proofs.Searched.{Searched, searched-none, searched-all}
 use Rattle.verdict.proofs.AtColumn.{other-at, other-columns, eitherSide, found-first, found-second, found-neither}
 use borrow.Author.Needs.{needs}

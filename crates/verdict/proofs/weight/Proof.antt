@@ -2,7 +2,7 @@ use Prim.Native.Nat.{_+_, _-_, _≤_}
 use mathlib.Core.Path.{sym, _∙_}
 use Rattle.meaning.specs.Block.{matrixOf}
 use Rattle.meaning.proofs.Formed.{formed}
-use Rattle.solve.proofs.Sizes.{columns-are}
+use Rattle.table.proofs.Sizes.{columns-are}
 use Rattle.verdict.proofs.Weighing.{WeighedTo, weight-small, weighed-none, weighed-more, weighed-all}
 use borrow.Author.Needs.{needs}
 use native.Mathlib.Omega.{arith}

@@ -6,12 +6,12 @@ use lib.Seq.{getD-set-same}
 use Rattle.meaning.specs.Active.{used}
 use Rattle.meaning.specs.Block.{columnsField, matrixOf}
 use Rattle.meaning.specs.Rule.{sharedReads}
-use Rattle.solve.proofs.Sizes.{ColumnSizes, column-sizes}
-use Rattle.solve.proofs.Columns.{shared-few, carry-fits, taken-over}
-use Rattle.solve.proofs.Filled.{taken-none, taken-next, shared-next}
+use Rattle.table.proofs.Sizes.{ColumnSizes, column-sizes}
+use Rattle.table.proofs.Columns.{shared-few, carry-fits, taken-over}
+use Rattle.table.proofs.Filled.{taken-none, taken-next, shared-next}
 use borrow.Author.Needs.{needs}
-use Rattle.solve.proofs.take_over.Statement.{statement}
-use Rattle.solve.proofs.take_over.Tie as tie
+use Rattle.table.proofs.take_over.Statement.{statement}
+use Rattle.table.proofs.take_over.Tie as tie
 
 -- the plain numbers of the column before, and of this one
 before : (c : tie.Else1) → c .before .before .before .before .before .before .before .before .before .args .j - 1 + 1 < columnsField (c .before .before .before .before .before .before .before .before .before .args .block .now)

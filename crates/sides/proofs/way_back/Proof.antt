@@ -7,10 +7,10 @@ use Rattle.meaning.specs.Block.{matrixOf}
 use Rattle.meaning.specs.Division.{allZero}
 use Rattle.meaning.specs.Answer.{divisionOf}
 use Rattle.meaning.specs.Rule.{columnOf, wayBack}
-use Rattle.solve.proofs.Sizes.{reads-are}
-use Rattle.solve.proofs.WayBack.{back-start, back-turn, back-end}
-use Rattle.solve.proofs.way_back.Statement.{statement}
-use Rattle.solve.proofs.way_back.Tie as tie
+use Rattle.table.proofs.Sizes.{reads-are}
+use Rattle.sides.proofs.WayBack.{back-start, back-turn, back-end}
+use Rattle.sides.proofs.way_back.Statement.{statement}
+use Rattle.sides.proofs.way_back.Tie as tie
 
 abbrev Inv-loop : tie.InvT-loop
 Inv-loop block start first end count lists m t work sides₀ j₀ sides j =

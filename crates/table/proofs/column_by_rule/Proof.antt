@@ -5,12 +5,12 @@ use mathlib.Core.List.{List}
 use lib.ListN.{length}
 use Rattle.meaning.specs.Block.{matrixOf}
 use Rattle.meaning.specs.Call.{laid}
-use Rattle.solve.proofs.Sizes.{ColumnSizes, column-sizes}
-use Rattle.solve.proofs.Columns.{cells-laid, shared-are, fill-fits, pass-laid}
-use Rattle.solve.proofs.Filled.{before-fits, before-over}
+use Rattle.table.proofs.Sizes.{ColumnSizes, column-sizes}
+use Rattle.table.proofs.Columns.{cells-laid, shared-are, fill-fits, pass-laid}
+use Rattle.table.proofs.Filled.{before-fits, before-over}
 use borrow.Author.Needs.{needs}
-use Rattle.solve.proofs.column_by_rule.Statement.{statement}
-use Rattle.solve.proofs.column_by_rule.Tie as tie
+use Rattle.table.proofs.column_by_rule.Statement.{statement}
+use Rattle.table.proofs.column_by_rule.Tie as tie
 
 -- the plain numbers of column j
 sizes : (c : tie.Start) → ColumnSizes (c .args .block .now) (c .args .start .now) (c .args .first .now) (c .args .end .now) (c .args .count .now) (c .args .lists .now) (c .pre .0) (c .args .j) (c .args .t)

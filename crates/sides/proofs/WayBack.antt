@@ -2,28 +2,34 @@
 use Prim.Native.Nat.{ℕ, zero, suc, _+_, _-_, _*_, _/_, _≤_, _<_}
 use mathlib.Core.Path.{_≡_, refl, sym, ap, _∙_, subst, fun-ext}
 use mathlib.Core.List.{List}
-use native.Mathlib.Nat.{le-trans}
+use native.Mathlib.Nat.{le-trans, zero-add}
 use native.Mathlib.Decide.{decLe}
 use native.Mathlib.Omega.{arith}
 use lib.ListN.{length, getD, take, drop, length-append, List·getD-eq-default}
-use lib.Seq.{getD-take}
+use lib.Seq.{getD-take, ext-getD}
 use lib.Pow.{pow-pos}
 use lib.Dec.{eqb}
-use Rattle.meaning.specs.Numbers.{bit}
+use Rattle.meaning.specs.Numbers.{bit, run}
 use Rattle.meaning.specs.Block.{Matrix, columnsField, readsField, matrixOf}
 use Rattle.meaning.specs.Active.{count, used, entries}
 use Rattle.meaning.specs.Closing.{activeReads, closingAt}
 use Rattle.meaning.specs.Division.{Division, firstOver, allZero}
 use Rattle.meaning.specs.Answer.{sidesOf, divisionOf}
 use Rattle.meaning.specs.Rule.{entryFor, leastAt, leastEntry, sharedReads, columnOf, wayBack}
-use Rattle.meaning.proofs.Lists.{Distinct}
+use Rattle.meaning.proofs.Lists.{Distinct, length-run, getD-run}
 use Rattle.meaning.proofs.Closing.{active-split}
-use Rattle.solve.specs.Ready.{Ready}
-use Rattle.solve.proofs.Pass.{least-parts}
-use Rattle.solve.proofs.Sizes.{columns-are, ready-formed, column-sizes}
-use Rattle.solve.proofs.Columns.{listPart, list-fits, list-read, height-is}
-use Rattle.solve.proofs.Back.{closes-behind, list-distinct, entries-length, bits-small, back-step}
-use Rattle.solve.proofs.Answered.{sides-list}
+use Rattle.table.specs.Ready.{Ready}
+use Rattle.table.proofs.Pass.{least-parts}
+use Rattle.table.proofs.Sizes.{columns-are, ready-formed, column-sizes}
+use Rattle.table.proofs.Columns.{listPart, list-fits, list-read, height-is}
+use Rattle.sides.proofs.Back.{closes-behind, list-distinct, entries-length, bits-small, back-step}
+
+-- sides that are bits of a division, n of them
+sides-list : (M : Matrix) (sides : List ℕ) (d : Division) → length sides ≡ count M → ((r : ℕ) → getD sides r 0 ≡ bit (d r)) → sides ≡ sidesOf M d
+unfolding sidesOf
+sides-list M sides d e h =
+    ext-getD 0 sides (run 0 (count M) (λ r. bit (d r))) (e ∙ sym (length-run 0 (count M) (λ r. bit (d r))))
+    (λ r l. h r ∙ sym (getD-run 0 (count M) (λ q. bit (d q)) r 0 (subst (λ (x : ℕ). r < x) e l) ∙ ap (λ (k : ℕ). bit (d k)) (zero-add r)))
 
 -- a byte of 0 or 1 is the bit of its side
 bit-back : (x : ℕ) → x ≤ 1 → x ≡ bit (eqb x 1)

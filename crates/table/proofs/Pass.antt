@@ -27,7 +27,7 @@ use Rattle.fold.proofs.Laws.{fold-is, shared-count}
 use Rattle.column.specs.Sums.{sumsWith}
 use Rattle.column.specs.Pass.{entryAt, passed}
 use Rattle.column.proofs.Join.{Paired, sums-is}
-use Rattle.solve.specs.Ready.{sharedBefore, passedOver, TakenOver}
+use Rattle.table.specs.Ready.{sharedBefore, passedOver, TakenOver}
 
 module _ (M : Matrix) (placed : Placed M) (j : ℕ) (w : List (List ℕ)) (turn taken : List ℕ) (paired : Paired M j w) where
   -- the pass is the rule, if what each index takes over is what the rule says of its division

@@ -3,8 +3,8 @@ use Prim.Native.Nat.{ℕ, zero, suc, _*_, _/_, _≤_, _<_}
 use mathlib.Core.Path.{_≡_}
 use mathlib.Core.List.{List, []}
 use lib.ListN.{length, getD, take, drop}
-use Rattle.meaning.specs.Block.{Matrix, columnsField, readsField, matrixOf}
-use Rattle.meaning.specs.Active.{activeCount, used, entries}
+use Rattle.meaning.specs.Block.{Matrix, readsField, matrixOf}
+use Rattle.meaning.specs.Active.{used}
 use Rattle.meaning.specs.Closing.{activeReads}
 use Rattle.meaning.specs.Refusals.{blockRefusal}
 use Rattle.meaning.specs.Charge.{charge}
@@ -27,22 +27,6 @@ pub record Ready (b start first after count lists : List ℕ) : Type 0 where
   pub firsts-room : readsField b ≤ length first
   pub ends-room : readsField b ≤ length after
   pub piled : Piled (matrixOf b) count lists
-
--- the same before the lists are made, of a block that passes the checks 1 to 8
-pub record Piling (b start first after count : List ℕ) (m n : ℕ) : Type 0 where
-  pub good : blockRefusal 1 b .number ≡ 0
-  pub noted : Noted b start first after
-  pub columns : m ≡ columnsField b
-  pub reads : n ≡ readsField b
-  pub starts-room : n ≤ length start
-  pub firsts-room : n ≤ length first
-  pub ends-room : n ≤ length after
-  pub count-room : m ≤ length count
-
--- check 9 passes, and t is T
-pub record ThinColumns (b : List ℕ) (t : ℕ) : Type 0 where
-  pub thin : (j : ℕ) → j < columnsField b → activeCount (matrixOf b) j ≤ 12
-  pub entries-are : t ≡ entries (matrixOf b)
 
 -- what column i + 1 takes over from column i, for each index of the shared reads
 abbrev pub TakenOver : Matrix → ℕ → List ℕ → List ℕ → Type 0

@@ -5,9 +5,9 @@ use Prim.Native.Nat.{ℕ, _-_, _≤_, _<_, zero-le}
 use lib.ListN.{length, getD, length-set}
 use mathlib.Core.Path.{_≡_, refl}
 use Rattle.column.proofs.Laws.{stored}
-use Rattle.solve.proofs.WayBack.{all-zero}
-use Rattle.solve.proofs.clear.Statement.{statement}
-use Rattle.solve.proofs.clear.Tie as tie
+use Rattle.sides.proofs.WayBack.{all-zero}
+use Rattle.sides.proofs.clear.Statement.{statement}
+use Rattle.sides.proofs.clear.Tie as tie
 
 abbrev Inv-loop : tie.InvT-loop
 Inv-loop sides₀ r₀ sides r = (r ≤ length sides₀) × (length sides ≡ length sides₀) × ((k : ℕ) → k < r → getD sides k 0 ≡ 0)

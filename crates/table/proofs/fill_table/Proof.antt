@@ -8,11 +8,11 @@ use Rattle.meaning.specs.Charge.{charge}
 use Rattle.meaning.specs.Table.{columnsTo}
 use Rattle.meaning.specs.Call.{over}
 use Rattle.meaning.proofs.Bounds.{Bytes}
-use Rattle.solve.proofs.Sizes.{columns-are, ready-formed, ready-placed}
-use Rattle.solve.proofs.Filled.{before-small, table-start, table-turn, table-end}
+use Rattle.table.proofs.Sizes.{columns-are, ready-formed, ready-placed}
+use Rattle.table.proofs.Filled.{before-small, table-start, table-turn, table-end}
 use borrow.Author.Needs.{needs}
-use Rattle.solve.proofs.fill_table.Statement.{statement}
-use Rattle.solve.proofs.fill_table.Tie as tie
+use Rattle.table.proofs.fill_table.Statement.{statement}
+use Rattle.table.proofs.fill_table.Tie as tie
 
 abbrev Inv-loop : tie.InvT-loop
 Inv-loop block start first end count lists m t taken₀ work₀ j₀ taken work j =

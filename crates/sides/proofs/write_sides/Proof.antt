@@ -1,7 +1,7 @@
 use mathlib.Core.Path.{sym, _∙_}
 use borrow.Author.Needs.{needs}
-use Rattle.solve.proofs.write_sides.Statement.{statement}
-use Rattle.solve.proofs.write_sides.Tie as tie
+use Rattle.sides.proofs.write_sides.Statement.{statement}
+use Rattle.sides.proofs.write_sides.Tie as tie
 
 clear-requires : tie.Need-clear-requires
 clear-requires c κs = search needs

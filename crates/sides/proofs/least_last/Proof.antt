@@ -5,10 +5,10 @@ use mathlib.Core.Path.{sym, ap, _∙_, subst}
 use lib.ListN.{length}
 use Rattle.meaning.specs.Block.{columnsField}
 use Rattle.meaning.specs.Active.{used}
-use Rattle.solve.proofs.Sizes.{ColumnSizes, column-sizes}
-use Rattle.solve.proofs.WayBack.{last-column, least-fits, least-is}
-use Rattle.solve.proofs.least_last.Statement.{statement}
-use Rattle.solve.proofs.least_last.Tie as tie
+use Rattle.table.proofs.Sizes.{ColumnSizes, column-sizes}
+use Rattle.sides.proofs.WayBack.{last-column, least-fits, least-is}
+use Rattle.sides.proofs.least_last.Statement.{statement}
+use Rattle.sides.proofs.least_last.Tie as tie
 
 -- there is a last column
 last : (c : tie.Start) → (0 < c .args .m) × (c .args .m - 1 < columnsField (c .args .block .now))

@@ -23,9 +23,9 @@ use Rattle.meaning.proofs.Least.{first-ext}
 use Rattle.meaning.proofs.Closing.{active-split, active-cells, active-is, active-lt, ends-at, distinct-active}
 use Rattle.meaning.proofs.Index.{index-used}
 use Rattle.column.proofs.Join.{sum-places}
-use Rattle.solve.specs.Ready.{Ready}
-use Rattle.solve.proofs.Sizes.{columns-are, reads-are, column-sizes}
-use Rattle.solve.proofs.Columns.{listPart, part-listed, list-fits, height-is}
+use Rattle.table.specs.Ready.{Ready}
+use Rattle.table.proofs.Sizes.{columns-are, reads-are, column-sizes}
+use Rattle.table.proofs.Columns.{listPart, part-listed, list-fits, height-is}
 
 sum-append : (xs ys : List ℕ) (f : ℕ → ℕ) → sumOver (xs ++ ys) f ≡ sumOver xs f + sumOver ys f
 sum-append [] ys f = omega arith

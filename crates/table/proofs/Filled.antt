@@ -25,9 +25,9 @@ use Rattle.meaning.proofs.Closing.{Placed, length-active, active-split}
 use Rattle.meaning.proofs.Rooms.{used-room, length-column, length-columns, column-at, columns-part, laid-join, laid-front}
 use Rattle.meaning.proofs.Rule.{rule-first, rule-next}
 use Rattle.meaning.proofs.Bounds.{Bytes, heaviest, block-light, entry-bound}
-use Rattle.solve.specs.Ready.{Ready, sharedBefore, TakenOver, TakenBefore, TakenFits, passedOver}
-use Rattle.solve.proofs.Pass.{over-first, over-next}
-use Rattle.solve.proofs.Sizes.{columns-are, ready-formed, ready-placed}
+use Rattle.table.specs.Ready.{Ready, sharedBefore, TakenOver, TakenBefore, TakenFits, passedOver}
+use Rattle.table.proofs.Pass.{over-first, over-next}
+use Rattle.table.proofs.Sizes.{columns-are, ready-formed, ready-placed}
 
 module _ (M : Matrix) (placed : Placed M) (work : List ℕ) where
   -- column 0 in front of the room

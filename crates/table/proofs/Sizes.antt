@@ -16,7 +16,7 @@ use Rattle.meaning.proofs.Lists.{has-getD}
 use Rattle.meaning.proofs.Closing.{Placed, length-active, active-lt, active-is}
 use Rattle.meaning.proofs.Formed.{Formed, formed, formed-placed, length-reads}
 use Rattle.meaning.proofs.Rooms.{used-room}
-use Rattle.solve.specs.Ready.{Ready}
+use Rattle.table.specs.Ready.{Ready}
 
 pub max-below : (n c : ℕ) (f : ℕ → ℕ) → ((i : ℕ) → i < n → f i ≤ c) → maxTo n f ≤ c
 unfolding maxTo

@@ -22,9 +22,9 @@ use Rattle.column.specs.Sums.{pairAt, pairOf, LightPairs}
 use Rattle.column.specs.Pass.{Room, passed}
 use Rattle.column.proofs.Join.{Paired}
 use Rattle.cells.specs.Laid.{Laid}
-use Rattle.solve.specs.Ready.{Ready, TakenOver, TakenFits, sharedBefore, passedOver}
-use Rattle.solve.proofs.Pass.{shared-before, least-parts, classes-fill, pass-over}
-use Rattle.solve.proofs.Sizes.{columns-are, reads-are, ready-placed, column-sizes, list-part, listed-read, listed-active}
+use Rattle.table.specs.Ready.{Ready, TakenOver, TakenFits, sharedBefore, passedOver}
+use Rattle.table.proofs.Pass.{shared-before, least-parts, classes-fill, pass-over}
+use Rattle.table.proofs.Sizes.{columns-are, reads-are, ready-placed, column-sizes, list-part, listed-read, listed-active}
 
 module _ (b start first after counts lists : List ℕ) (ready : Ready b start first after counts lists) where
   -- the part of the lists that a column's twelve places are

@@ -6,11 +6,11 @@ use lib.ListN.{length}
 use Rattle.meaning.specs.Block.{matrixOf}
 use Rattle.meaning.specs.Active.{used}
 use Rattle.meaning.specs.Rule.{sharedReads}
-use Rattle.solve.proofs.Sizes.{ColumnSizes, column-sizes}
-use Rattle.solve.proofs.Back.{going-is, settled}
-use Rattle.solve.proofs.WayBack.{going-fits, settle-fits}
-use Rattle.solve.proofs.back_at.Statement.{statement}
-use Rattle.solve.proofs.back_at.Tie as tie
+use Rattle.table.proofs.Sizes.{ColumnSizes, column-sizes}
+use Rattle.sides.proofs.Back.{going-is, settled}
+use Rattle.sides.proofs.WayBack.{going-fits, settle-fits}
+use Rattle.sides.proofs.back_at.Statement.{statement}
+use Rattle.sides.proofs.back_at.Tie as tie
 
 -- the plain numbers of column j
 sizes : (c : tie.Start) → ColumnSizes (c .args .block .now) (c .args .start .now) (c .args .first .now) (c .args .end .now) (c .args .count .now) (c .args .lists .now) (c .pre .0) (c .args .j) (c .args .t)

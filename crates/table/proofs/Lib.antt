@@ -1,0 +1,4 @@
+pub mod Sizes
+pub mod Pass
+pub mod Columns
+pub mod Filled

@@ -1,13 +1,12 @@
 // The sides of all reads: the way back through the table, from its last column to its first.
 ghost use mathlib.Core.Path.{_≡_};
-ghost use Prim.Native.Nat.{ℕ, _+_, _-_, _*_, _≤_, _<_};
+ghost use Prim.Native.Nat.{ℕ, _-_, _*_, _≤_, _<_};
 ghost use lib.ListN.{length, getD};
 ghost use Rattle.meaning.specs.Numbers.{bit};
 ghost use Rattle.meaning.specs.Block.{columnsField, readsField, matrixOf};
 ghost use Rattle.meaning.specs.Active.{entries};
 ghost use Rattle.meaning.specs.Closing.{activeReads, closingAt};
 ghost use Rattle.meaning.specs.Division.{firstOver, allZero};
-ghost use Rattle.meaning.specs.Table.{column, table};
 ghost use Rattle.meaning.specs.Answer.{sidesOf, divisionOf};
 ghost use Rattle.meaning.specs.Rule.{columnOf, entryFor, leastEntry, wayBack};
 ghost use Rattle.table.specs.Ready.{Ready};

@@ -1,7 +1,7 @@
 // The solver: the checks 9, 10 and 11, the table, the sides, letters and flips, the answer block.
 ghost use mathlib.Core.Path.{_≡_};
 ghost use mathlib.Core.Bool.{true, false};
-ghost use Prim.Native.Nat.{ℕ, _+_, _-_, _*_, _≤_, _<_, min};
+ghost use Prim.Native.Nat.{ℕ, _+_, _*_, _≤_, _<_, min};
 ghost use lib.ListN.{length, getD, take, drop, replicate};
 ghost use Rattle.meaning.specs.Block.{columnsField, readsField, matrixOf};
 ghost use Rattle.meaning.specs.Active.{used, entries};
@@ -16,6 +16,61 @@ ghost use Rattle.block.specs.Places.{Noted};
 ghost use Rattle.table.specs.Ready.{Ready};
 ghost use Rattle.solve.specs.Piling.{Piling, ThinColumns};
 ghost use Rattle.solve.specs.Outcomes.{ColumnsFound, resultOf};
+
+// What the solver finds of a block's columns: 9 with the first that has more than 12 active reads, or T.
+pub enum Crowding {
+    Crowded(u32),
+    Thin(usize),
+}
+
+// Where the reads of a block that passes the checks 1 to 8 lie; then check 9, and T.
+pub fn piled(
+    block: &[u8],
+    m: usize,
+    n: usize,
+    start: &mut [u32],
+    first: &mut [u16],
+    end: &mut [u16],
+    count: &mut [u16],
+) -> Crowding
+    requires { ⌜ (blockRefusal 1 (now block) .number ≡ 0) × (m ≡ columnsField (now block)) × (n ≡ readsField (now block)) ⌝ }
+    requires { ⌜ (n ≤ length (now start)) × (n ≤ length (now first)) × (n ≤ length (now end)) ⌝ }
+    requires { ⌜ (m ≤ length (now count)) × (now count ≡ replicate (length (now count)) 0) ⌝ }
+    ensures { λ r. ⌜ Piling (now (block .entry)) (now (start .exit)) (now (first .exit)) (now (end .exit)) (now (count .exit)) m n ⌝ }
+    ensures { λ r. ⌜ ColumnsFound (now (block .entry)) r ⌝ }
+{
+    block::places(block, n, start, first, end);
+    pile::heights(first, end, n, count);
+    let h = pile::tallest(count, m);
+    match h {
+        pile::Pile::Crowded(j) => Crowding::Crowded(j as u32),
+        pile::Pile::Most(most) => Crowding::Thin(column::entries(most)),
+    }
+}
+
+// The columns' lists, and the table. `t` is T.
+pub fn tabled(
+    block: &[u8],
+    start: &[u32],
+    first: &[u16],
+    end: &[u16],
+    count: &mut [u16],
+    lists: &mut [u16],
+    m: usize,
+    n: usize,
+    t: usize,
+    taken: &mut [u32],
+    work: &mut [u32],
+)
+    requires { ⌜ Piling (now block) (now start) (now first) (now end) (now count) m n ⌝ }
+    requires { ⌜ ThinColumns (now block) t ⌝ }
+    requires { ⌜ (12 * m ≤ length (now lists)) × (used (min n 12) ≤ length (now taken)) × (m * t ≤ length (now work)) ⌝ }
+    ensures { λ _. ⌜ Ready (now (block .entry)) (now (start .entry)) (now (first .entry)) (now (end .entry)) (now (count .exit)) (now (lists .exit)) ⌝ }
+    ensures { λ _. ⌜ now (work .exit) ≡ over (table charge (matrixOf (now (block .entry)))) (now (work .entry)) ⌝ }
+{
+    pile::lists(first, end, n, m, count, lists);
+    table::fill_table(block, start, first, end, count, lists, m, t, taken, work);
+}
 
 // The letters of both haplotypes, behind the sides that stand in the output; and the number of flips. The tally is room to work in, of zeros.
 fn write_letters(
@@ -89,61 +144,6 @@ fn write_answer(
     let cost = sides::least_last(block, start, first, end, count, lists, m, t, work);
     answer::put_head(out, cost, flips, n, m);
     cost
-}
-
-// What the solver finds of a block's columns: 9 with the first that has more than 12 active reads, or T.
-pub enum Crowding {
-    Crowded(u32),
-    Thin(usize),
-}
-
-// Where the reads of a block that passes the checks 1 to 8 lie; then check 9, and T.
-pub fn piled(
-    block: &[u8],
-    m: usize,
-    n: usize,
-    start: &mut [u32],
-    first: &mut [u16],
-    end: &mut [u16],
-    count: &mut [u16],
-) -> Crowding
-    requires { ⌜ (blockRefusal 1 (now block) .number ≡ 0) × (m ≡ columnsField (now block)) × (n ≡ readsField (now block)) ⌝ }
-    requires { ⌜ (n ≤ length (now start)) × (n ≤ length (now first)) × (n ≤ length (now end)) ⌝ }
-    requires { ⌜ (m ≤ length (now count)) × (now count ≡ replicate (length (now count)) 0) ⌝ }
-    ensures { λ r. ⌜ Piling (now (block .entry)) (now (start .exit)) (now (first .exit)) (now (end .exit)) (now (count .exit)) m n ⌝ }
-    ensures { λ r. ⌜ ColumnsFound (now (block .entry)) r ⌝ }
-{
-    block::places(block, n, start, first, end);
-    pile::heights(first, end, n, count);
-    let h = pile::tallest(count, m);
-    match h {
-        pile::Pile::Crowded(j) => Crowding::Crowded(j as u32),
-        pile::Pile::Most(most) => Crowding::Thin(column::entries(most)),
-    }
-}
-
-// The columns' lists, and the table. `t` is T.
-pub fn tabled(
-    block: &[u8],
-    start: &[u32],
-    first: &[u16],
-    end: &[u16],
-    count: &mut [u16],
-    lists: &mut [u16],
-    m: usize,
-    n: usize,
-    t: usize,
-    taken: &mut [u32],
-    work: &mut [u32],
-)
-    requires { ⌜ Piling (now block) (now start) (now first) (now end) (now count) m n ⌝ }
-    requires { ⌜ ThinColumns (now block) t ⌝ }
-    requires { ⌜ (12 * m ≤ length (now lists)) × (used (min n 12) ≤ length (now taken)) × (m * t ≤ length (now work)) ⌝ }
-    ensures { λ _. ⌜ Ready (now (block .entry)) (now (start .entry)) (now (first .entry)) (now (end .entry)) (now (count .exit)) (now (lists .exit)) ⌝ }
-    ensures { λ _. ⌜ now (work .exit) ≡ over (table charge (matrixOf (now (block .entry)))) (now (work .entry)) ⌝ }
-{
-    pile::lists(first, end, n, m, count, lists);
-    table::fill_table(block, start, first, end, count, lists, m, t, taken, work);
 }
 
 // What the solver finds in a block that passes the checks 1 to 8: 9 with the column, 10 or 11 with the size needed, or the cost.

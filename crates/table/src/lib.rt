@@ -1,11 +1,11 @@
 // The table, column by column.
 ghost use mathlib.Core.Path.{_≡_};
-ghost use Prim.Native.Nat.{ℕ, _+_, _-_, _*_, _≤_, _<_};
+ghost use Prim.Native.Nat.{ℕ, _-_, _*_, _≤_, _<_};
 ghost use lib.ListN.{length, getD};
 ghost use Rattle.meaning.specs.Block.{columnsField, matrixOf};
 ghost use Rattle.meaning.specs.Active.{entries};
 ghost use Rattle.meaning.specs.Charge.{charge};
-ghost use Rattle.meaning.specs.Table.{column, table};
+ghost use Rattle.meaning.specs.Table.{table};
 ghost use Rattle.meaning.specs.Call.{over, laid};
 ghost use Rattle.meaning.specs.Rule.{ruleColumn, columnOf};
 ghost use Rattle.table.specs.Ready.{Ready, sharedBefore, TakenBefore};

@@ -12,7 +12,7 @@ use Rattle.meaning.specs.Block.{Matrix}
 use Rattle.meaning.specs.Active.{count}
 use Rattle.meaning.specs.Division.{Side, Division}
 use Rattle.meaning.specs.Charge.{W, leastCost, best}
-use Rattle.meaning.specs.Letters.{Mode, reported, haplotypes, flips}
+use Rattle.meaning.specs.Letters.{Mode, chargeIn, reported, haplotypes, flips}
 use Rattle.meaning.specs.Answer.{answerBytes, sidesOf, lettersOf, answer}
 use Rattle.meaning.proofs.Lists.{length-run, getD-run}
 
@@ -67,39 +67,57 @@ module _ (cost flipped : ℕ) (sides hap1 hap2 rest : List ℕ) where
         rw (← drop-drop, letters, drop-at hap1 (hap2 ++ rest) (word block 15) (sym (columns-is few-columns)))
         (take-at hap2 rest (word block 15) (same ∙ sym (columns-is few-columns)))
 
+-- a division's sides and letters: how many, and which
+module _ (M : Matrix) (d : Division) where
+  pub length-sides : length (sidesOf M d) ≡ count M
+  unfolding sidesOf
+  length-sides = length-run 0 (count M) (λ r. bit (d r))
+
+  pub side-of : (r : ℕ) → r < count M → getD (sidesOf M d) r 0 ≡ bit (d r)
+  unfolding sidesOf
+  side-of r l = getD-run 0 (count M) (λ q. bit (d q)) r 0 l ∙ ap (λ (q : ℕ). bit (d q)) (zero-add r)
+
+  pub length-letters : (mode : Mode) (s : Side) → length (lettersOf mode M d s) ≡ M .columns
+  unfolding lettersOf
+  length-letters mode s = length-run 0 (M .columns) (λ j. reported mode (W M d j) s)
+
+  pub letter-of : (mode : Mode) (s : Side) (j : ℕ) → j < M .columns → getD (lettersOf mode M d s) j 0 ≡ reported mode (W M d j) s
+  unfolding lettersOf
+  letter-of mode s j l = getD-run 0 (M .columns) (λ k. reported mode (W M d k) s) j 0 l ∙ ap (λ (k : ℕ). reported mode (W M d k) s) (zero-add j)
+
 -- our own answer, byte by byte behind its head
 module _ (mode : Mode) (M : Matrix) where
   abbrev d : Division
-  d = best (mode .charged) M
+  d = best (chargeIn mode) M
+
+  pub answer-length : length (answer mode M) ≡ 17 + count M + 2 * M .columns
+  unfolding answer
+  answer-length =
+      omega (
+        arith,
+        ap length (append-nil (answer mode M)),
+        block-length (leastCost (chargeIn mode) M) (flips M d (haplotypes mode M d)) (sidesOf M d) (lettersOf mode M d false) (lettersOf mode M d true) [],
+        length-sides M d,
+        length-letters M d mode false,
+        length-letters M d mode true,
+      )
 
   behind-head : drop 17 (answer mode M) ≡ sidesOf M d ++ (lettersOf mode M d false ++ lettersOf mode M d true)
   unfolding answer
   behind-head =
       ap (drop 17) (sym (append-nil (answer mode M)))
-      ∙ behind (leastCost (mode .charged) M) (flips M d (haplotypes mode M d)) (sidesOf M d) (lettersOf mode M d false) (lettersOf mode M d true) []
+      ∙ behind (leastCost (chargeIn mode) M) (flips M d (haplotypes mode M d)) (sidesOf M d) (lettersOf mode M d false) (lettersOf mode M d true) []
       ∙ ap (λ (x : List ℕ). sidesOf M d ++ (lettersOf mode M d false ++ x)) (append-nil (lettersOf mode M d true))
 
   byte-behind : (i : ℕ) → getD (answer mode M) (17 + i) 0 ≡ getD (sidesOf M d ++ (lettersOf mode M d false ++ lettersOf mode M d true)) i 0
   byte-behind i = sym (getD-drop 17 (answer mode M) i 0) ∙ ap (λ (x : List ℕ). getD x i 0) behind-head
 
-  sides-length : length (sidesOf M d) ≡ count M
-  unfolding sidesOf
-  sides-length = length-run 0 (count M) (λ r. bit (d r))
-
-  letters-length : (s : Side) → length (lettersOf mode M d s) ≡ M .columns
-  unfolding lettersOf
-  letters-length s = length-run 0 (M .columns) (λ j. reported mode (W M d j) s)
-
-  letter-of : (s : Side) (j : ℕ) → j < M .columns → getD (lettersOf mode M d s) j 0 ≡ reported mode (W M d j) s
-  unfolding lettersOf
-  letter-of s j l = getD-run 0 (M .columns) (λ k. reported mode (W M d k) s) j 0 l ∙ ap (λ (k : ℕ). reported mode (W M d k) s) (zero-add j)
-
   pub answer-side : (r : ℕ) → r < count M → getD (answer mode M) (17 + r) 0 ≡ getD (sidesOf M d) r 0
-  answer-side r l = byte-behind r ∙ List·getD-append (sidesOf M d) _ 0 r (omega (arith, sides-length))
+  answer-side r l = byte-behind r ∙ List·getD-append (sidesOf M d) _ 0 r (omega (arith, length-sides M d))
 
   pub answer-letter : (s : Side) (j : ℕ) → j < M .columns → getD (answer mode M) (17 + count M + cond s (M .columns) 0 + j) 0 ≡ reported mode (W M d j) s
   answer-letter s j l =
-      ap (λ (i : ℕ). getD (answer mode M) i 0) (let e : 17 + count M + cond s (M .columns) 0 + j ≡ 17 + (length (sidesOf M d) + (cond s (M .columns) 0 + j)) = omega (arith, sides-length) in e)
+      ap (λ (i : ℕ). getD (answer mode M) i 0) (let e : 17 + count M + cond s (M .columns) 0 + j ≡ 17 + (length (sidesOf M d) + (cond s (M .columns) 0 + j)) = omega (arith, length-sides M d) in e)
       ∙ byte-behind (length (sidesOf M d) + (cond s (M .columns) 0 + j))
       ∙ getD-append-add (sidesOf M d) _ (cond s (M .columns) 0 + j) 0
       ∙ go s
@@ -107,9 +125,9 @@ module _ (mode : Mode) (M : Matrix) where
       go : (s : Side) → getD (lettersOf mode M d false ++ lettersOf mode M d true) (cond s (M .columns) 0 + j) 0 ≡ reported mode (W M d j) s
       go false =
           ap (λ (i : ℕ). getD (lettersOf mode M d false ++ lettersOf mode M d true) i 0) (zero-add j)
-          ∙ List·getD-append (lettersOf mode M d false) (lettersOf mode M d true) 0 j (omega (arith, letters-length false))
-          ∙ letter-of false j l
+          ∙ List·getD-append (lettersOf mode M d false) (lettersOf mode M d true) 0 j (omega (arith, length-letters M d mode false))
+          ∙ letter-of M d mode false j l
       go true =
-          ap (λ (i : ℕ). getD (lettersOf mode M d false ++ lettersOf mode M d true) (i + j) 0) (sym (letters-length false))
+          ap (λ (i : ℕ). getD (lettersOf mode M d false ++ lettersOf mode M d true) (i + j) 0) (sym (length-letters M d mode false))
           ∙ getD-append-add (lettersOf mode M d false) (lettersOf mode M d true) j 0
-          ∙ letter-of true j l
+          ∙ letter-of M d mode true j l

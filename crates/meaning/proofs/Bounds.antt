@@ -15,10 +15,10 @@ use Rattle.meaning.specs.Active.{count, read, active, at, activeCount}
 use Rattle.meaning.specs.Closing.{activeReads}
 use Rattle.meaning.specs.Division.{Side, Division}
 use Rattle.meaning.specs.Charge.{Letter, against, W, costTo, leastCost}
-use Rattle.meaning.specs.Letters.{Mode}
+use Rattle.meaning.specs.Letters.{Mode, chargeIn}
 use Rattle.meaning.specs.Table.{pattern, entry}
 use Rattle.meaning.proofs.Totals.{sum-le, sum-times, sum-bound}
-use Rattle.meaning.proofs.Sums.{at-idle, against-hole, column-sides}
+use Rattle.meaning.proofs.Sums.{sums-local, at-idle, against-hole, column-sides}
 use Rattle.meaning.proofs.Modes.{Fair}
 use Rattle.meaning.proofs.Best.{least-cost-below}
 use Rattle.meaning.proofs.Column.{value-below}
@@ -57,16 +57,16 @@ module _ (M : Matrix) (lim : ℕ) (light : Light M lim) where
     charge-bound d j = le-trans (le-of-eq (sym (fair .met (W M d j)))) (sums-bound d j (mode .letter (W M d j) false) (mode .letter (W M d j) true))
 
     module _ (deep : ℕ) (thin : (j : ℕ) → j < M .columns → activeCount M j ≤ deep) where
-      pub cost-bound : (d : Division) (j : ℕ) → j ≤ M .columns → costTo (mode .charged) M j d ≤ j * (deep * lim)
+      pub cost-bound : (d : Division) (j : ℕ) → j ≤ M .columns → costTo (chargeIn mode) M j d ≤ j * (deep * lim)
       unfolding costTo
       cost-bound d j h = sum-bound j (deep * lim) (λ i l. le-trans (charge-bound d i) (mul-le-mul-right lim (thin i (omega arith))))
 
-      pub entry-bound : (j k : ℕ) → j < M .columns → entry (mode .charged) M j k ≤ suc j * (deep * lim)
+      pub entry-bound : (j k : ℕ) → j < M .columns → entry (chargeIn mode) M j k ≤ suc j * (deep * lim)
       unfolding entry
-      entry-bound j k h = le-trans (value-below (mode .charged) M j (pattern (activeReads M j) k)) (cost-bound (pattern (activeReads M j) k) (suc j) h)
+      entry-bound j k h = le-trans (value-below (chargeIn mode) M j (pattern (activeReads M j) k)) (cost-bound (pattern (activeReads M j) k) (suc j) h)
 
-      pub least-bound : leastCost (mode .charged) M ≤ M .columns * (deep * lim)
-      least-bound = le-trans (least-cost-below (mode .charged) M (λ r. false)) (cost-bound (λ r. false) (M .columns) (le-refl (M .columns)))
+      pub least-bound : leastCost (chargeIn mode) M ≤ M .columns * (deep * lim)
+      least-bound = le-trans (least-cost-below (chargeIn mode) M (sums-local (mode .charged) M) (λ r. false)) (cost-bound (λ r. false) (M .columns) (le-refl (M .columns)))
 
 -- every byte is at most 255
 abbrev pub Bytes : List ℕ → Type 0
@@ -82,10 +82,10 @@ number-bound b h (suc n) i =
     let z : suc (bigEndian n b i) * 256 ≤ 256 ^ n * 256 = mul-le-mul-right 256 x in
     subst (λ (e : ℕ). bigEndian n b i * 256 + getD b (i + n) 0 < e) (sym (pow-suc 256 n)) (omega arith)
 
-bytes-drop : (b : List ℕ) (k : ℕ) → Bytes b → Bytes (drop k b)
+pub bytes-drop : (b : List ℕ) (k : ℕ) → Bytes b → Bytes (drop k b)
 bytes-drop b k h i = subst (λ (x : ℕ). x ≤ 255) (sym (getD-drop k b i 0)) (h (k + i))
 
-bytes-take : (b : List ℕ) (k : ℕ) → Bytes b → Bytes (take k b)
+pub bytes-take : (b : List ℕ) (k : ℕ) → Bytes b → Bytes (take k b)
 bytes-take b k h i = go (ltb i k) refl
   where
     go : (t : Bool) → ltb i k ≡ t → getD (take k b) i 0 ≤ 255
@@ -124,7 +124,7 @@ module _ (size : ℕ) where
       go true = zero-le
       go false = zero-le
 
-  reads-light : (n : ℕ) (b : List ℕ) → Bytes b → (r j : ℕ) → at (getD (readsOf size n b) r noRead) j .weight ≤ 256 ^ (size - 1) - 1
+  pub reads-light : (n : ℕ) (b : List ℕ) → Bytes b → (r j : ℕ) → at (getD (readsOf size n b) r noRead) j .weight ≤ 256 ^ (size - 1) - 1
   unfolding readsOf
   reads-light zero b h r j = no-light j
   reads-light (suc n) b h zero j = cell-light b h j
@@ -146,11 +146,11 @@ module _ (mode : Mode) (fair : Fair mode) (newest : ℕ) (b : List ℕ) (work ou
       times : (x : ℕ) → 1024 * (12 * x) ≡ 12288 * x
       times x = omega arith
 
-  pub cost-limit : leastCost (mode .charged) (matrixOf b) ≤ 12288 * heaviest b
+  pub cost-limit : leastCost (chargeIn mode) (matrixOf b) ≤ 12288 * heaviest b
   unfolding matrixOf
   cost-limit = le-trans (least-bound (matrixOf b) (heaviest b) (block-light b bytes) mode fair 12 (a .thin)) (within (columnsField b) (a .block .head .few-columns))
 
-  pub entry-limit : (j k : ℕ) → j < columnsField b → entry (mode .charged) (matrixOf b) j k ≤ 12288 * heaviest b
+  pub entry-limit : (j k : ℕ) → j < columnsField b → entry (chargeIn mode) (matrixOf b) j k ≤ 12288 * heaviest b
   unfolding matrixOf
   entry-limit j k l =
       le-trans (entry-bound (matrixOf b) (heaviest b) (block-light b bytes) mode fair 12 (a .thin) j k l)

@@ -98,10 +98,6 @@ pub closing-lt : (M : Matrix) (r : ℕ) → has r (closing M) ≡ true → r < c
 unfolding closing
 closing-lt M r h = before-lt M (M .columns) r h
 
-pub distinct-closing-at : (M : Matrix) (j : ℕ) → Distinct (closingAt M j)
-unfolding closingAt
-distinct-closing-at M j = distinct-keep (λ r. closesAt (read M r) j) (upTo (count M)) (distinct-run 0 (count M))
-
 pub distinct-closing-before : (M : Matrix) (j : ℕ) → Distinct (closingBefore M j)
 unfolding closingBefore closingAt
 distinct-closing-before M zero = tt

@@ -1,9 +1,9 @@
 -- Demand 1: the list says when each number is given, and it is given at no other time; a refusal writes nothing.
 use Prim.Native.Nat.{ℕ, zero, suc, _+_, _-_, _≤_, _<_, suc-le-suc}
 use borrow.Author.Tests.{eq-eqb, lt-ltb, ne-eqb, le-ltb}
-use lib.Dec.{ltb, eqb}
+use lib.Dec.{ltb}
 use lib.ListN.{length}
-use mathlib.Core.Bool.{Bool, true, false, cond, not, _||_, false≢true}
+use mathlib.Core.Bool.{Bool, true, false, cond, not, _||_}
 use mathlib.Core.List.{List}
 use mathlib.Core.Logic.{_≢_, _⊎_, inl, inr}
 use mathlib.Core.Path.{_≡_, refl, sym, ap, _∙_, subst, ap₂}
@@ -14,18 +14,21 @@ use Rattle.meaning.specs.Block.{versionField, sizeField, columnsField, r
 use Rattle.meaning.specs.Active.{activeCount}
 use Rattle.meaning.specs.Letters.{Mode}
 use Rattle.meaning.specs.Answer.{answerSize}
-use Rattle.meaning.specs.Refusals.{Numbers, passed, short, otherVersion, otherSize, badCounts, badLength, badPlace, badCells, readFault, readsFault, leftOver, crowded, workSize, refuse, orElse, headerRefusal, blockRefusal, refusal}
+use Rattle.meaning.specs.Refusals.{Numbers, passed, short, otherVersion, otherSize, badCounts, badLength, badPlace, badCells, readFault, readsFault, leftOver, crowded, workSize, refuse, orElse, headerRefusal, blockRefusal, matrixRefusal, refusal}
 use Rattle.meaning.specs.Call.{accepts, refuses, callWith}
 use Rattle.meaning.proofs.Refusals.{or-pass, or-stop, test-pass, test-stop}
 use Rattle.meaning.proofs.Formed.{Sound, Headed, Formed, Accepted}
+use Rattle.meaning.proofs.Tells.{tells-true, tells-false, tells-which, tells-below, tells-equal, tells-or}
+use Rattle.meaning.proofs.ReadChecks.{BadLength, GoodLength, BadPlace, GoodPlace, BadCells, GoodCells, GoodRead, length-tells, place-tells, cells-tell, sound-exactly}
 use Rattle.meaning.proofs.Call.{call-accepts, call-refuses}
 
 -- the part of the block that starts at read r
 abbrev pub readPart : List ℕ → ℕ → List ℕ
 readPart b r = afterReads r (readsPart b)
 
+-- 5, 6 and 7 pass at the reads before r, and 9 at the columns before j
 abbrev pub SoundBefore : List ℕ → ℕ → Type 0
-SoundBefore b r = (k : ℕ) → k < r → Sound (cellSize b) (columnsField b) (readPart b k)
+SoundBefore b r = (k : ℕ) → k < r → GoodRead (cellSize b) (columnsField b) (readPart b k)
 
 abbrev pub ThinBefore : List ℕ → ℕ → Type 0
 ThinBefore b j = (i : ℕ) → i < j → activeCount (matrixOf b) i ≤ 12
@@ -37,12 +40,12 @@ pub data Given (newest : ℕ) (b : List ℕ) (work out : ℕ) : ℕ → ℕ → 
   size : 9 ≤ length b → 0 < versionField b → versionField b ≤ newest → sizeField b ≢ length b - 5 → Given newest b work out 3 0
   counts : 9 ≤ length b → 0 < versionField b → versionField b ≤ newest → sizeField b ≡ length b - 5
       → (columnsField b ≡ 0) ⊎ ((1024 < columnsField b) ⊎ (1024 < readsField b)) → Given newest b work out 4 0
-  length-of : Headed newest b → (r : ℕ) → r < readsField b → SoundBefore b r → badLength (cellSize b) (readPart b r) ≡ true → Given newest b work out 5 r
-  place-of : Headed newest b → (r : ℕ) → r < readsField b → SoundBefore b r → badLength (cellSize b) (readPart b r) ≡ false
-      → badPlace (cellSize b) (columnsField b) (readPart b r) ≡ true → Given newest b work out 6 r
-  cell-of : Headed newest b → (r : ℕ) → r < readsField b → SoundBefore b r → badLength (cellSize b) (readPart b r) ≡ false
-      → badPlace (cellSize b) (columnsField b) (readPart b r) ≡ false
-      → badCells (cellCount (cellSize b) (readPart b r)) (cellAt (cellSize b) (cellsPart (readPart b r))) ≡ true → Given newest b work out 7 r
+  length-of : Headed newest b → (r : ℕ) → r < readsField b → SoundBefore b r → BadLength (cellSize b) (readPart b r)
+      → Given newest b work out 5 r
+  place-of : Headed newest b → (r : ℕ) → r < readsField b → SoundBefore b r → GoodLength (cellSize b) (readPart b r)
+      → BadPlace (cellSize b) (columnsField b) (readPart b r) → Given newest b work out 6 r
+  cell-of : Headed newest b → (r : ℕ) → r < readsField b → SoundBefore b r → GoodLength (cellSize b) (readPart b r)
+      → GoodPlace (cellSize b) (columnsField b) (readPart b r) → BadCells (cellSize b) (readPart b r) → Given newest b work out 7 r
   remain : Headed newest b → SoundBefore b (readsField b) → 0 < length (readPart b (readsField b)) → Given newest b work out 8 0
   crowd : Formed newest b → (j : ℕ) → j < columnsField b → ThinBefore b j → 12 < activeCount (matrixOf b) j → Given newest b work out 9 j
   room : Formed newest b → ThinBefore b (columnsField b) → work < workSize (matrixOf b) → Given newest b work out 10 (workSize (matrixOf b))
@@ -50,13 +53,15 @@ pub data Given (newest : ℕ) (b : List ℕ) (work out : ℕ) : ℕ → ℕ → 
       → Given newest b work out 11 (answerSize (matrixOf b))
   none : Accepted newest b work out → Given newest b work out 0 0
 
--- a sound read has no fault, and reads without fault pass
-sound-zero : (z m : ℕ) (b : List ℕ) → Sound z m b → readFault z m b ≡ 0
+-- a read's fault, by what the three checks tell
+fault : (z m : ℕ) (b : List ℕ) {x y w : Bool} → badLength z b ≡ x → badPlace z m b ≡ y → badCells (cellCount z b) (cellAt z (cellsPart b)) ≡ w
+    → readFault z m b ≡ cond x 5 (cond y 6 (cond w 7 0))
 unfolding readFault
-sound-zero z m b s =
-    ap (λ (x : Bool). cond x 5 (cond (badPlace z m b) 6 (cond (badCells (cellCount z b) (cellAt z (cellsPart b))) 7 0))) (s .sized)
-    ∙ ap (λ (x : Bool). cond x 6 (cond (badCells (cellCount z b) (cellAt z (cellsPart b))) 7 0)) (s .placed)
-    ∙ ap (λ (x : Bool). cond x 7 0) (s .celled)
+fault z m b e f g = rw (e, f, g)
+
+-- a sound read has none, and reads without fault pass
+sound-zero : (z m : ℕ) (b : List ℕ) → Sound z m b → readFault z m b ≡ 0
+sound-zero z m b s = fault z m b (s .sized) (s .placed) (s .celled)
 
 pub reads-pass : (z m n r : ℕ) (b : List ℕ) → ((k : ℕ) → k < n → Sound z m (afterReads k b)) → readsFault z m n r b ≡ passed
 unfolding readsFault afterReads
@@ -115,22 +120,24 @@ headed-pass newest b h =
     ∙ ap (λ (t : Bool). cond t (record { number = 4; second = 0 }) passed)
     (ap₂ _||_ (ne-eqb (columnsField b) 0 (λ e. omega (arith, h .some-column))) (ap₂ _||_ (le-ltb 1024 (columnsField b) (h .few-columns)) (le-ltb 1024 (readsField b) (h .few-reads))))
 
--- one of two tests passes
-or-one : (a b : Bool) → (a ≡ true) ⊎ (b ≡ true) → (a || b) ≡ true
-or-one true b h = refl
-or-one false b (inl h) = absurd (false≢true h)
-or-one false b (inr h) = h
-
 version-bad : (newest : ℕ) (b : List ℕ) → (versionField b ≡ 0) ⊎ (newest < versionField b) → otherVersion newest b ≡ true
 unfolding otherVersion
-version-bad newest b (inl h) = or-one _ _ (inl (eq-eqb (versionField b) 0 h))
-version-bad newest b (inr h) = or-one (eqb (versionField b) 0) _ (inr (lt-ltb newest (versionField b) h))
+version-bad newest b = tells-true (tells-or (tells-equal (versionField b) 0) (tells-below newest (versionField b)))
 
 counts-bad : (b : List ℕ) → (columnsField b ≡ 0) ⊎ ((1024 < columnsField b) ⊎ (1024 < readsField b)) → badCounts b ≡ true
 unfolding badCounts
-counts-bad b (inl h) = or-one _ _ (inl (eq-eqb (columnsField b) 0 h))
-counts-bad b (inr (inl h)) = or-one (eqb (columnsField b) 0) _ (inr (or-one _ _ (inl (lt-ltb 1024 (columnsField b) h))))
-counts-bad b (inr (inr h)) = or-one (eqb (columnsField b) 0) _ (inr (or-one (ltb 1024 (columnsField b)) _ (inr (lt-ltb 1024 (readsField b) h))))
+counts-bad b = tells-true (tells-or (tells-equal (columnsField b) 0) (tells-or (tells-below 1024 (columnsField b)) (tells-below 1024 (readsField b))))
+
+-- the faults that the checks 5, 6 and 7 find
+module _ (z m : ℕ) (b : List ℕ) where
+  fault-length : BadLength z b → readFault z m b ≡ 5
+  fault-length w = fault z m b (tells-true (length-tells z b) w) refl refl
+
+  fault-place : GoodLength z b → BadPlace z m b → readFault z m b ≡ 6
+  fault-place g w = fault z m b (tells-false (length-tells z b) g) (tells-true (place-tells z b m) w) refl
+
+  fault-cell : GoodLength z b → GoodPlace z m b → BadCells z b → readFault z m b ≡ 7
+  fault-cell g p w = fault z m b (tells-false (length-tells z b) g) (tells-false (place-tells z b m) p) (tells-true (cells-tell z b) w)
 
 not-zero : (i s : ℕ) {r : Numbers} → r ≡ record { number = suc i; second = s } → r .number ≡ 0 → ⊥
 not-zero i s e z = let q : suc i ≡ 0 = sym (ap (λ (x : Numbers). x .number) e) ∙ z in omega arith
@@ -138,7 +145,7 @@ not-zero i s e z = let q : suc i ≡ 0 = sym (ap (λ (x : Numbers). x .number) e
 module _ (newest : ℕ) (b : List ℕ) (work out : ℕ) where
   -- a refusal of the header or of the block is the refusal
   header-stops : (i s : ℕ) → headerRefusal newest b ≡ record { number = suc i; second = s } → refusal newest b work out ≡ record { number = suc i; second = s }
-  unfolding refusal blockRefusal
+  unfolding refusal matrixRefusal matrixOf blockRefusal
   header-stops i s e =
       let p : blockRefusal newest b ≡ record { number = suc i; second = s } = or-stop (headerRefusal newest b) _ (not-zero i s e) ∙ e in
       or-stop (blockRefusal newest b) _ (not-zero i s p) ∙ p
@@ -166,12 +173,15 @@ module _ (newest : ℕ) (b : List ℕ) (work out : ℕ) where
   known-version p q = ap₂ _||_ (ne-eqb (versionField b) 0 (λ e. omega arith)) (le-ltb newest (versionField b) q)
 
   -- the reads, behind a header that passes
+  sound-before : (r : ℕ) → SoundBefore b r → (k : ℕ) → k < r → Sound (cellSize b) (columnsField b) (readPart b k)
+  sound-before r s k l = sound-exactly (cellSize b) (readPart b k) (columnsField b) .1 (s k l)
+
   reads-stops : Headed newest b → (r i : ℕ) → r < readsField b → SoundBefore b r → readFault (cellSize b) (columnsField b) (readPart b r) ≡ suc i
       → refusal newest b work out ≡ record { number = suc i; second = r }
-  unfolding refusal blockRefusal
+  unfolding refusal matrixRefusal matrixOf blockRefusal
   reads-stops h r i l s e =
       let p : readsFault (cellSize b) (columnsField b) (readsField b) 0 (readsPart b) ≡ record { number = suc i; second = r } =
-      reads-stop (cellSize b) (columnsField b) (readsField b) 0 (readsPart b) r i l s e ∙ ap (λ (y : ℕ). record { number = suc i; second = y }) (zero-add r) in
+      reads-stop (cellSize b) (columnsField b) (readsField b) 0 (readsPart b) r i l (sound-before r s) e ∙ ap (λ (y : ℕ). record { number = suc i; second = y }) (zero-add r) in
       let q : blockRefusal newest b ≡ record { number = suc i; second = r } =
       or-pass (headerRefusal newest b) _ (ap (λ (x : Numbers). x .number) (headed-pass newest b h)) ∙ or-stop _ _ (not-zero i r p) ∙ p in
       or-stop (blockRefusal newest b) _ (not-zero i r q) ∙ q
@@ -180,12 +190,12 @@ module _ (newest : ℕ) (b : List ℕ) (work out : ℕ) where
   unfolding blockRefusal
   block-reads h s =
       or-pass (headerRefusal newest b) _ (ap (λ (x : Numbers). x .number) (headed-pass newest b h))
-      ∙ or-pass _ _ (ap (λ (x : Numbers). x .number) (reads-pass (cellSize b) (columnsField b) (readsField b) 0 (readsPart b) s))
+      ∙ or-pass _ _ (ap (λ (x : Numbers). x .number) (reads-pass (cellSize b) (columnsField b) (readsField b) 0 (readsPart b) (sound-before (readsField b) s)))
 
   formed-pass : Formed newest b → blockRefusal newest b ≡ passed
   unfolding refuse leftOver
   formed-pass f =
-      block-reads (f .head) (f .sound)
+      block-reads (f .head) (λ k l. sound-exactly (cellSize b) (readPart b k) (columnsField b) .0 (f .sound k l))
       ∙ ap (λ (t : Bool). cond t (record { number = 8; second = 0 }) passed) (le-ltb 0 (length (readPart b (readsField b))) (le-of-eq (f .ended)))
 
   thin-pass : ThinBefore b (columnsField b) → crowded (activeCount (matrixOf b)) 0 (columnsField b) ≡ passed
@@ -193,20 +203,20 @@ module _ (newest : ℕ) (b : List ℕ) (work out : ℕ) where
 
   rooms : Formed newest b → ThinBefore b (columnsField b) → refusal newest b work out
       ≡ orElse (refuse (ltb work (workSize (matrixOf b))) 10 (workSize (matrixOf b))) (refuse (ltb out (answerSize (matrixOf b))) 11 (answerSize (matrixOf b)))
-  unfolding refusal
+  unfolding refusal matrixRefusal matrixOf
   rooms f t =
       or-pass (blockRefusal newest b) _ (ap (λ (x : Numbers). x .number) (formed-pass f))
       ∙ or-pass _ _ (ap (λ (x : Numbers). x .number) (thin-pass t))
 
   remain-stops : Headed newest b → SoundBefore b (readsField b) → 0 < length (readPart b (readsField b)) → refusal newest b work out ≡ record { number = 8; second = 0 }
-  unfolding refusal refuse leftOver
+  unfolding refusal matrixRefusal matrixOf refuse leftOver
   remain-stops h s l =
       let e : blockRefusal newest b ≡ record { number = 8; second = 0 } =
       block-reads h s ∙ ap (λ (t : Bool). cond t (record { number = 8; second = 0 }) passed) (lt-ltb 0 (length (readPart b (readsField b))) l) in
       or-stop (blockRefusal newest b) _ (not-zero 7 0 e) ∙ e
 
   crowd-stops : Formed newest b → (j : ℕ) → j < columnsField b → ThinBefore b j → 12 < activeCount (matrixOf b) j → refusal newest b work out ≡ record { number = 9; second = j }
-  unfolding refusal
+  unfolding refusal matrixRefusal matrixOf
   crowd-stops f j l t c =
       let e : crowded (activeCount (matrixOf b)) 0 (columnsField b) ≡ record { number = 9; second = j } =
       crowded-stop (activeCount (matrixOf b)) 0 (columnsField b) j l (λ q p. subst (λ (x : ℕ). activeCount (matrixOf b) x ≤ 12) (sym (zero-add q)) (t q p)) (subst (λ (x : ℕ). 12 < activeCount (matrixOf b) x) (sym (zero-add j)) c)
@@ -215,34 +225,16 @@ module _ (newest : ℕ) (b : List ℕ) (work out : ℕ) where
       ∙ or-stop (crowded (activeCount (matrixOf b)) 0 (columnsField b)) _ (not-zero 8 j e)
       ∙ e
 
-  fault-length : (r : ℕ) → badLength (cellSize b) (readPart b r) ≡ true → readFault (cellSize b) (columnsField b) (readPart b r) ≡ 5
-  unfolding readFault
-  fault-length r e =
-      ap (λ (x : Bool). cond x 5 (cond (badPlace (cellSize b) (columnsField b) (readPart b r)) 6 (cond (badCells (cellCount (cellSize b) (readPart b r)) (cellAt (cellSize b) (cellsPart (readPart b r)))) 7 0))) e
-
-  fault-place : (r : ℕ) → badLength (cellSize b) (readPart b r) ≡ false → badPlace (cellSize b) (columnsField b) (readPart b r) ≡ true
-      → readFault (cellSize b) (columnsField b) (readPart b r) ≡ 6
-  unfolding readFault
-  fault-place r e f =
-      ap₂ (λ (x y : Bool). cond x 5 (cond y 6 (cond (badCells (cellCount (cellSize b) (readPart b r)) (cellAt (cellSize b) (cellsPart (readPart b r)))) 7 0))) e f
-
-  fault-cell : (r : ℕ) → badLength (cellSize b) (readPart b r) ≡ false → badPlace (cellSize b) (columnsField b) (readPart b r) ≡ false
-      → badCells (cellCount (cellSize b) (readPart b r)) (cellAt (cellSize b) (cellsPart (readPart b r))) ≡ true → readFault (cellSize b) (columnsField b) (readPart b r) ≡ 7
-  unfolding readFault
-  fault-cell r e f g =
-      ap₂ (λ (x y : Bool). cond x 5 (cond y 6 (cond (badCells (cellCount (cellSize b) (readPart b r)) (cellAt (cellSize b) (cellsPart (readPart b r)))) 7 0))) e f
-      ∙ ap (λ (z : Bool). cond z 7 0) g
-
   -- each row gives its numbers
   pub given-only : {i s : ℕ} → Given newest b work out i s → refusal newest b work out ≡ record { number = i; second = s }
-  unfolding short otherSize readFault refuse leftOver refusal
+  unfolding short otherSize readFault refuse leftOver refusal matrixRefusal matrixOf
   given-only (fewer h) = header-stops 0 0 (header-one (lt-ltb (length b) 9 h))
   given-only (version h v) = header-stops 1 0 (header-two (le-ltb (length b) 9 h) (version-bad newest b v))
   given-only (size h v w e) = header-stops 2 0 (header-three (le-ltb (length b) 9 h) (known-version v w) (ap not (ne-eqb (sizeField b) (length b - 5) e)))
   given-only (counts h v w e c) = header-stops 3 0 (header-four (le-ltb (length b) 9 h) (known-version v w) (ap not (eq-eqb (sizeField b) (length b - 5) e)) (counts-bad b c))
-  given-only (length-of h r l s e) = reads-stops h r 4 l s (fault-length r e)
-  given-only (place-of h r l s e f) = reads-stops h r 5 l s (fault-place r e f)
-  given-only (cell-of h r l s e f g) = reads-stops h r 6 l s (fault-cell r e f g)
+  given-only (length-of h r l s e) = reads-stops h r 4 l s (fault-length (cellSize b) (columnsField b) (readPart b r) e)
+  given-only (place-of h r l s e f) = reads-stops h r 5 l s (fault-place (cellSize b) (columnsField b) (readPart b r) e f)
+  given-only (cell-of h r l s e f g) = reads-stops h r 6 l s (fault-cell (cellSize b) (columnsField b) (readPart b r) e f g)
   given-only (remain h s l) = remain-stops h s l
   given-only (crowd f j l t c) = crowd-stops f j l t c
   given-only (room f t l) =
@@ -293,20 +285,21 @@ module _ (newest : ℕ) (b : List ℕ) (work out : ℕ) where
 
   reads-row : Headed newest b → (n : ℕ) → n ≤ readsField b → Row ⊎ SoundBefore b n
   reads-row h zero l = inr (λ k p. absurd (not-suc-le-zero p))
-  reads-row h (suc n) l = go (reads-row h n (omega arith)) (badLength (cellSize b) (readPart b n)) refl (badPlace (cellSize b) (columnsField b) (readPart b n)) refl (badCells (cellCount (cellSize b) (readPart b n)) (cellAt (cellSize b) (cellsPart (readPart b n)))) refl
+  reads-row h (suc n) l =
+      go (reads-row h n (omega arith)) (tells-which (length-tells (cellSize b) (readPart b n)))
+      (tells-which (place-tells (cellSize b) (readPart b n) (columnsField b))) (tells-which (cells-tell (cellSize b) (readPart b n)))
     where
-      go : Row ⊎ SoundBefore b n
-          → (x : Bool) → badLength (cellSize b) (readPart b n) ≡ x → (y : Bool) → badPlace (cellSize b) (columnsField b) (readPart b n) ≡ y
-          → (z : Bool) → badCells (cellCount (cellSize b) (readPart b n)) (cellAt (cellSize b) (cellsPart (readPart b n))) ≡ z
-          → Row ⊎ SoundBefore b (suc n)
-      go (inl w) x e y f z g = inl w
-      go (inr s) true e y f z g = inl (5, n, length-of h n l s e)
-      go (inr s) false e true f z g = inl (6, n, place-of h n l s e f)
-      go (inr s) false e false f true g = inl (7, n, cell-of h n l s e f g)
-      go (inr s) false e false f false g = inr (λ k p. here k p (ℕ-discrete k n))
+      go : Row ⊎ SoundBefore b n → BadLength (cellSize b) (readPart b n) ⊎ GoodLength (cellSize b) (readPart b n)
+          → BadPlace (cellSize b) (columnsField b) (readPart b n) ⊎ GoodPlace (cellSize b) (columnsField b) (readPart b n)
+          → BadCells (cellSize b) (readPart b n) ⊎ GoodCells (cellSize b) (readPart b n) → Row ⊎ SoundBefore b (suc n)
+      go (inl w) x y z = inl w
+      go (inr s) (inl e) y z = inl (5, n, length-of h n l s e)
+      go (inr s) (inr e) (inl f) z = inl (6, n, place-of h n l s e f)
+      go (inr s) (inr e) (inr f) (inl g) = inl (7, n, cell-of h n l s e f g)
+      go (inr s) (inr e) (inr f) (inr g) = inr (λ k p. here k p (ℕ-discrete k n))
         where
-          here : (k : ℕ) → k < suc n → Dec (k ≡ n) → Sound (cellSize b) (columnsField b) (readPart b k)
-          here k p (yes x) = subst (λ (i : ℕ). Sound (cellSize b) (columnsField b) (readPart b i)) (sym x) (record { sized = e; placed = f; celled = g })
+          here : (k : ℕ) → k < suc n → Dec (k ≡ n) → GoodRead (cellSize b) (columnsField b) (readPart b k)
+          here k p (yes x) = subst (λ (i : ℕ). GoodRead (cellSize b) (columnsField b) (readPart b i)) (sym x) (record { long = e; placed = f; cells = g })
           here k p (no x) = s k (omega arith)
 
   columns-row : Formed newest b → (m : ℕ) → m ≤ columnsField b → Row ⊎ ThinBefore b m
@@ -338,7 +331,7 @@ module _ (newest : ℕ) (b : List ℕ) (work out : ℕ) where
       piled f (inr t) = inside f t (decLe (workSize (matrixOf b)) work)
 
       left : Headed newest b → SoundBefore b (readsField b) → Dec (length (readPart b (readsField b)) ≡ 0) → Row
-      left h s (yes x) = let f : Formed newest b = record { head = h; sound = s; ended = x } in piled f (columns-row f (columnsField b) (le-refl (columnsField b)))
+      left h s (yes x) = let f : Formed newest b = record { head = h; sound = sound-before (readsField b) s; ended = x } in piled f (columns-row f (columnsField b) (le-refl (columnsField b)))
       left h s (no x) = (8, 0, remain h s (omega arith))
 
       searched : Headed newest b → (Row ⊎ SoundBefore b (readsField b)) → Row
@@ -364,6 +357,6 @@ demand1-refused mode newest b work out {i} {s} g =
     call-refuses mode newest b work out (not-zero i s e)
     ∙ ap (λ (x : Numbers). refuses x work out) e
 
-pub demand1-accepted : (mode : Mode) (newest : ℕ) (b work out : List ℕ) → Accepted newest b (length work) (length out) → callWith mode newest b work out ≡ accepts mode b work out
+pub demand1-accepted : (mode : Mode) (newest : ℕ) (b work out : List ℕ) → Accepted newest b (length work) (length out) → callWith mode newest b work out ≡ accepts mode (matrixOf b) work out
 demand1-accepted mode newest b work out a =
     call-accepts mode newest b work out (ap (λ (x : Numbers). x .number) (given-only newest b (length work) (length out) (none a)))

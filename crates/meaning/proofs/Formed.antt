@@ -9,10 +9,10 @@ use mathlib.Core.Logic.{_≢_}
 use mathlib.Core.Path.{_≡_, refl, sym, ap, subst}
 use native.Mathlib.Nat.{le-of-suc-le-suc, not-suc-le-zero}
 use native.Mathlib.Omega.{arith}
-use Rattle.meaning.specs.Block.{Read, noRead, versionField, sizeField, columnsField, readsField, cellSize, firstField, cellCount, cellsPart, cellAt, readOf, afterRead, readsOf, afterReads, readsPart, matrixOf}
-use Rattle.meaning.specs.Active.{end, activeCount}
+use Rattle.meaning.specs.Block.{Read, noRead, versionField, sizeField, columnsField, readsField, cellSize, firstField, cellCount, cellsPart, cellAt, readOf, afterRead, readsOf, afterReads, readsPart, matrixFrom, matrixOf}
+use Rattle.meaning.specs.Active.{count, end, activeCount}
 use Rattle.meaning.specs.Answer.{answerSize}
-use Rattle.meaning.specs.Refusals.{short, otherVersion, otherSize, badCounts, badLength, badPlace, badCells, readFault, readsFault, leftOver, crowded, workSize, headerRefusal, blockRefusal, refusal}
+use Rattle.meaning.specs.Refusals.{short, otherVersion, otherSize, badCounts, badLength, badPlace, badCells, readFault, readsFault, leftOver, crowded, workSize, headerRefusal, blockRefusal, matrixRefusal, refusal}
 use Rattle.meaning.proofs.Lists.{length-run}
 use Rattle.meaning.proofs.Closing.{Placed}
 use Rattle.meaning.proofs.Refusals.{or-else-zero, refuse-zero, or-false-left, or-false-right}
@@ -113,12 +113,24 @@ formed newest b h =
       ended = omega (arith, ltb-false 0 (length (afterReads (readsField b) (readsPart b))) (refuse-zero _ 8 0 (omega arith) (c5 .1)));
     }
 
--- in a formed block every read ends by the last column
+-- where each of n reads is sound, each ends by the last column
+pub sound-placed : (size m n : ℕ) (b : List ℕ) → ((k : ℕ) → k < n → Sound size m (afterReads k b)) → Placed (matrixFrom size m n b)
+sound-placed size m n b sound r l =
+    let k : r < n = subst (λ (x : ℕ). r < x) (length-reads size n b) l in
+    subst (λ (x : Read). end x ≤ m) (sym (getD-reads size n b r k)) (sound-end size m (afterReads r b) (sound r k))
+
 pub formed-placed : (newest : ℕ) (b : List ℕ) → Formed newest b → Placed (matrixOf b)
 unfolding matrixOf
-formed-placed newest b a r l =
-    let k : r < readsField b = subst (λ (n : ℕ). r < n) (length-reads (cellSize b) (readsField b) (readsPart b)) l in
-    subst (λ (x : Read). end x ≤ columnsField b) (sym (getD-reads (cellSize b) (readsField b) (readsPart b) r k)) (sound-end (cellSize b) (columnsField b) (afterReads r (readsPart b)) (a .sound r k))
+formed-placed newest b a = sound-placed (cellSize b) (columnsField b) (readsField b) (readsPart b) (a .sound)
+
+-- a block's matrix has its n and m
+pub matrix-reads : (b : List ℕ) → count (matrixOf b) ≡ readsField b
+unfolding matrixOf
+matrix-reads b = length-reads (cellSize b) (readsField b) (readsPart b)
+
+pub matrix-columns : (b : List ℕ) → matrixOf b .columns ≡ columnsField b
+unfolding matrixOf
+matrix-columns b = refl
 
 -- of the columns j to j + n - 1 none is crowded
 pub crowded-zero : (height : ℕ → ℕ) (j n : ℕ) → crowded height j n .number ≡ 0 → (i : ℕ) → j ≤ i → i < j + n → height i ≤ 12
@@ -140,7 +152,7 @@ pub record Accepted (newest : ℕ) (b : List ℕ) (work out : ℕ) : Type 0 wher
   pub output : answerSize (matrixOf b) ≤ out
 
 pub accepted : (newest : ℕ) (b : List ℕ) (work out : ℕ) → refusal newest b work out .number ≡ 0 → Accepted newest b work out
-unfolding refusal
+unfolding refusal matrixRefusal matrixOf
 accepted newest b work out h =
     let c8 = or-else-zero _ _ h in
     let c9 = or-else-zero _ _ (c8 .1) in

@@ -1,16 +1,18 @@
 -- Acceptance and refusal of a judging; 11 does not occur; and that its contract determines the result.
-use Prim.Native.Nat.{ℕ}
+use Prim.Native.Nat.{ℕ, _≤_}
 use borrow.Author.Tests.{eq-eqb, ne-eqb}
+use lib.Dec.{eqb}
 use lib.ListN.{length}
 use mathlib.Core.Bool.{Bool, cond}
 use mathlib.Core.List.{List}
 use mathlib.Core.Logic.{_≢_}
 use mathlib.Core.Path.{_≡_, sym, ap, _∙_}
 use native.Mathlib.Omega.{arith}
-use Rattle.meaning.specs.Block.{matrixOf}
+use Rattle.meaning.specs.Block.{Matrix, matrixOf}
 use Rattle.meaning.specs.Answer.{answerSize}
-use Rattle.meaning.specs.Refusals.{Numbers, refusal}
-use Rattle.meaning.specs.Judge.{Judged, judges, judgingWith, JudgedBy}
+use Rattle.meaning.specs.Refusals.{Numbers, blockRefusal, matrixRefusal, refusal}
+use Rattle.meaning.specs.Judge.{Judged, judges, rejects, judgingWith, judgingOn, JudgedBy}
+use Rattle.meaning.proofs.Refusals.{or-pass, or-stop}
 use Rattle.meaning.proofs.Demand1.{Given, fewer, version, size, counts, length-of, place-of, cell-of, remain, crowd, room, output, none, given}
 
 module _ (newest : ℕ) (b a work : List ℕ) where
@@ -18,34 +20,56 @@ module _ (newest : ℕ) (b a work : List ℕ) where
   abbrev refused : Numbers
   refused = refusal newest b (length work) (answerSize (matrixOf b))
 
-  abbrev kept : Judged
-  kept = record { number = refused .number; second = refused .second; work = work }
-
-  pub judging-accepts : refused .number ≡ 0 → judgingWith newest b a work ≡ judges b a work
+  pub judging-accepts : refused .number ≡ 0 → judgingWith newest b a work ≡ judges (matrixOf b) a work
   unfolding judgingWith
-  judging-accepts e = ap (λ (t : Bool). cond t (judges b a work) kept) (eq-eqb (refused .number) 0 e)
+  judging-accepts e = ap (λ (t : Bool). cond t (judges (matrixOf b) a work) (rejects refused work)) (eq-eqb (refused .number) 0 e)
 
-  pub judging-refuses : (refused .number ≡ 0 → ⊥) → judgingWith newest b a work ≡ kept
+  pub judging-refuses : (refused .number ≡ 0 → ⊥) → judgingWith newest b a work ≡ rejects refused work
   unfolding judgingWith
-  judging-refuses e = ap (λ (t : Bool). cond t (judges b a work) kept) (ne-eqb (refused .number) 0 e)
+  judging-refuses e = ap (λ (t : Bool). cond t (judges (matrixOf b) a work) (rejects refused work)) (ne-eqb (refused .number) 0 e)
 
--- there is always room for the answer
+  -- behind the checks 1 to 8 it is a judging on the matrix
+  pub judging-on : blockRefusal newest b .number ≡ 0 → judgingWith newest b a work ≡ judgingOn (matrixOf b) a work
+  unfolding judgingWith judgingOn refusal
+  judging-on e =
+      ap (λ (g : Numbers). cond (eqb (g .number) 0) (judges (matrixOf b) a work) (rejects g work))
+      (or-pass (blockRefusal newest b) (matrixRefusal (matrixOf b) (length work) (answerSize (matrixOf b))) e)
+
+  -- and before them a refusal that leaves the room
+  pub judging-block : (blockRefusal newest b .number ≡ 0 → ⊥) → judgingWith newest b a work ≡ rejects (blockRefusal newest b) work
+  unfolding judgingWith refusal
+  judging-block e =
+      ap (λ (g : Numbers). cond (eqb (g .number) 0) (judges (matrixOf b) a work) (rejects g work))
+      (or-stop (blockRefusal newest b) (matrixRefusal (matrixOf b) (length work) (answerSize (matrixOf b))) e)
+      ∙ ap (λ (t : Bool). cond t (judges (matrixOf b) a work) (rejects (blockRefusal newest b) work)) (ne-eqb (blockRefusal newest b .number) 0 e)
+
+-- of a matrix: judged, or refused by one of the checks 9 and 10
+module _ (M : Matrix) (a work : List ℕ) where
+  pub judging-on-accepts : matrixRefusal M (length work) (answerSize M) .number ≡ 0 → judgingOn M a work ≡ judges M a work
+  unfolding judgingOn
+  judging-on-accepts e = ap (λ (t : Bool). cond t (judges M a work) (rejects (matrixRefusal M (length work) (answerSize M)) work)) (eq-eqb (matrixRefusal M (length work) (answerSize M) .number) 0 e)
+
+  pub judging-on-refuses : (matrixRefusal M (length work) (answerSize M) .number ≡ 0 → ⊥) → judgingOn M a work ≡ rejects (matrixRefusal M (length work) (answerSize M)) work
+  unfolding judgingOn
+  judging-on-refuses e = ap (λ (t : Bool). cond t (judges M a work) (rejects (matrixRefusal M (length work) (answerSize M)) work)) (ne-eqb (matrixRefusal M (length work) (answerSize M) .number) 0 e)
+
+-- there is always room for the answer, so a refusal is one of 1 to 10
+pub to-ten : (newest : ℕ) (b : List ℕ) (work : ℕ) {i s : ℕ} → Given newest b work (answerSize (matrixOf b)) i s → i ≤ 10
+to-ten newest b work (fewer h) = omega arith
+to-ten newest b work (version h v) = omega arith
+to-ten newest b work (size h v w x) = omega arith
+to-ten newest b work (counts h v w x c) = omega arith
+to-ten newest b work (length-of h r l s x) = omega arith
+to-ten newest b work (place-of h r l s x y) = omega arith
+to-ten newest b work (cell-of h r l s x y z) = omega arith
+to-ten newest b work (remain h s l) = omega arith
+to-ten newest b work (crowd f j l t c) = omega arith
+to-ten newest b work (room f t l) = omega arith
+to-ten newest b work (output f t l h) = omega arith
+to-ten newest b work (none x) = omega arith
+
 pub never-eleven : (newest : ℕ) (b : List ℕ) (work : ℕ) → refusal newest b work (answerSize (matrixOf b)) .number ≢ 11
-never-eleven newest b work = other (given newest b work (answerSize (matrixOf b)))
-  where
-    other : {i s : ℕ} → Given newest b work (answerSize (matrixOf b)) i s → i ≢ 11
-    other (fewer h) e = omega arith
-    other (version h v) e = omega arith
-    other (size h v w x) e = omega arith
-    other (counts h v w x c) e = omega arith
-    other (length-of h r l s x) e = omega arith
-    other (place-of h r l s x y) e = omega arith
-    other (cell-of h r l s x y z) e = omega arith
-    other (remain h s l) e = omega arith
-    other (crowd f j l t c) e = omega arith
-    other (room f t l) e = omega arith
-    other (output f t l h) e = omega arith
-    other (none x) e = omega arith
+never-eleven newest b work e = omega (arith, to-ten newest b work (given newest b work (answerSize (matrixOf b))))
 
 -- two results that the contract allows are equal
 pub judged-determined : (b a work : List ℕ) (r s : Judged) → JudgedBy b a work r → JudgedBy b a work s → r ≡ s

@@ -149,12 +149,6 @@ mix-in rs x d q m = ap (λ (b : Bool). cond b (x q) (d q)) m
 pub mix-out : (rs : List ℕ) (x d : Division) (q : ℕ) → has q rs ≡ false → mix rs x d q ≡ d q
 mix-out rs x d q m = ap (λ (b : Bool). cond b (x q) (d q)) m
 
--- in stages: the reads of xs over the least that ys leave
-pub least-append : (xs ys : List ℕ) (f : Division → ℕ) (d : Division) → leastOver (xs ++ ys) f d ≡ leastOver xs (leastOver ys f) d
-unfolding leastOver
-least-append [] ys f d = refl
-least-append (x ∷ xs) ys f d = ap₂ min (least-append xs ys f (put x false d)) (least-append xs ys f (put x true d))
-
 pub least-ext : (rs : List ℕ) (f g : Division → ℕ) (d : Division) → ((e : Division) → Agree rs d e → f e ≡ g e) → leastOver rs f d ≡ leastOver rs g d
 unfolding leastOver
 least-ext [] f g d h = h d (λ q m. refl)

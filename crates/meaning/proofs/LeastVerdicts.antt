@@ -9,7 +9,7 @@ use mathlib.Core.Path.{_≡_, refl, sym, ap, _∙_, subst, ap₂}
 use native.Mathlib.Nat.{le-of-eq, le-trans, le-refl}
 use native.Mathlib.Omega.{arith}
 use Rattle.meaning.specs.Numbers.{bit}
-use Rattle.meaning.specs.Block.{Matrix, matrixOf}
+use Rattle.meaning.specs.Block.{Matrix}
 use Rattle.meaning.specs.Division.{Side, Division}
 use Rattle.meaning.specs.Charge.{W, charge, leastCost}
 use Rattle.meaning.specs.Letters.{general, Haplotypes, haplotypes, disagreement}
@@ -18,7 +18,7 @@ use Rattle.meaning.proofs.Totals.{sum-ext}
 use Rattle.meaning.proofs.Sums.{column-sides}
 use Rattle.meaning.proofs.Modes.{general-fair, cost-haplotypes}
 use Rattle.meaning.proofs.Best.{least-cost-attained}
-use Rattle.meaning.proofs.VerdictChecks.{LikeCounts, GoodMarks, GoodDashes, Honest, matrix-columns, none-below}
+use Rattle.meaning.proofs.VerdictChecks.{LikeCounts, GoodMarks, GoodDashes, Honest, none-below}
 use Rattle.meaning.proofs.Verdicts.{honest-exactly, last-three, judged-55, judged-56, judged-57}
 
 -- haplotypes that have the answer's letters, and any letter where the answer has `-`
@@ -26,8 +26,8 @@ abbrev pub Reading : Matrix → List ℕ → Haplotypes → Type 0
 Reading M a g = (s : Side) (j : ℕ) → j < M .columns → statedLetter a s j ≢ 2 → bit (g s j) ≡ statedLetter a s j
 
 -- the answer's own haplotypes are such a reading
-pub stated-reading : (b a : List ℕ) → LikeCounts b a → GoodMarks a → Reading (matrixOf b) a (statedHaplotypes a)
-stated-reading b a c k s j l n = known (statedLetter a s j) (k .letters s j (subst (λ (m : ℕ). j < m) (matrix-columns b ∙ sym (c .columns)) l)) n
+pub stated-reading : (M : Matrix) (a : List ℕ) → LikeCounts M a → GoodMarks a → Reading M a (statedHaplotypes a)
+stated-reading M a c k s j l n = known (statedLetter a s j) (k .letters s j (subst (λ (m : ℕ). j < m) (sym (c .columns)) l)) n
   where
     known : (x : ℕ) → x ≤ 2 → x ≢ 2 → bit (eqb x 1) ≡ x
     known x h n = go (eqb x 1) refl
@@ -73,46 +73,43 @@ pub record Beaten (M : Matrix) (a : List ℕ) (least : ℕ) : Type 0 where
   pub met : disagreement M division strings ≡ least
   pub dearer : (g : Haplotypes) → Reading M a g → least < disagreement M (statedDivision a) g
 
-module _ (b a : List ℕ) where
-  abbrev M : Matrix
-  M = matrixOf b
-
-  weighs : Honest b a → (g : Haplotypes) → Reading M a g → statedCost a ≡ disagreement M (statedDivision a) g
+module _ (M : Matrix) (a : List ℕ) where
+  weighs : Honest M a → (g : Haplotypes) → Reading M a g → statedCost a ≡ disagreement M (statedDivision a) g
   weighs h g r = h .cost ∙ sym (either M a (h .dashes) g r)
 
   -- none of 50 to 54: 56 or 57 is given exactly when no division and haplotypes cost less than the answer, whichever way each `-` is read
-  pub least-exactly : 54 < verdict b a .number → (g : Haplotypes) → Reading M a g
-      → ((verdict b a .number ≡ 56) ⊎ (verdict b a .number ≡ 57)) ↔ ((e : Division) (h : Haplotypes) → disagreement M (statedDivision a) g ≤ disagreement M e h)
-  least-exactly l g r = (λ n e h. le-trans (le-of-eq (sym weight ∙ cost n)) (none-below M e h), λ c. last c (last-three b a l))
+  pub least-exactly : 54 < verdict M a .number → (g : Haplotypes) → Reading M a g
+      → ((verdict M a .number ≡ 56) ⊎ (verdict M a .number ≡ 57)) ↔ ((e : Division) (h : Haplotypes) → disagreement M (statedDivision a) g ≤ disagreement M e h)
+  least-exactly l g r = (λ n e h. le-trans (le-of-eq (sym weight ∙ cost n)) (none-below M e h), λ c. last c (last-three M a l))
     where
       weight : statedCost a ≡ disagreement M (statedDivision a) g
-      weight = weighs (honest-exactly b a .0 l) g r
+      weight = weighs (honest-exactly M a .0 l) g r
 
-      cost : (verdict b a .number ≡ 56) ⊎ (verdict b a .number ≡ 57) → statedCost a ≡ leastCost charge M
-      cost (inl n) = judged-56 b a n .0
-      cost (inr n) = judged-57 b a n .0
+      cost : (verdict M a .number ≡ 56) ⊎ (verdict M a .number ≡ 57) → statedCost a ≡ leastCost charge M
+      cost (inl n) = judged-56 M a n .0
+      cost (inr n) = judged-57 M a n .0
 
       last : ((e : Division) (h : Haplotypes) → disagreement M (statedDivision a) g ≤ disagreement M e h)
-          → (verdict b a .number ≡ 55) ⊎ (verdict b a .number ≡ 56) ⊎ (verdict b a .number ≡ 57) → (verdict b a .number ≡ 56) ⊎ (verdict b a .number ≡ 57)
+          → (verdict M a .number ≡ 55) ⊎ (verdict M a .number ≡ 56) ⊎ (verdict M a .number ≡ 57) → (verdict M a .number ≡ 56) ⊎ (verdict M a .number ≡ 57)
       last c (inl n) =
           let w = least-met M in
           let x : disagreement M (statedDivision a) g ≤ leastCost charge M = le-trans (c (w .0) (w .1)) (le-of-eq (w .2)) in
-          let y : leastCost charge M < statedCost a = judged-55 b a n .0 in
+          let y : leastCost charge M < statedCost a = judged-55 M a n .0 in
           let z : ⊥ = omega (arith, weight) in
           absurd z
       last c (inr n) = n
 
   -- 55: some division and haplotypes cost less, and the second number is the least that any cost
-  pub not-least-beaten : verdict b a .number ≡ 55 → Beaten M a (verdict b a .second)
+  pub not-least-beaten : verdict M a .number ≡ 55 → Beaten M a (verdict M a .second)
   not-least-beaten n =
       let w = least-met M in
-      let j = judged-55 b a n in
-      let h = honest-exactly b a .0 (subst (λ (i : ℕ). 54 < i) (sym n) (le-refl 55)) in
+      let j = judged-55 M a n in
+      let h = honest-exactly M a .0 (subst (λ (i : ℕ). 54 < i) (sym n) (le-refl 55)) in
       record {
         is-least = j .1;
         none-less = λ e f. le-trans (le-of-eq (j .1)) (none-below M e f);
         division = w .0;
         strings = w .1;
         met = w .2 ∙ sym (j .1);
-        dearer = λ g r. subst (λ (x : ℕ). verdict b a .second < x) (weighs h g r) (subst (λ (x : ℕ). x < statedCost a) (sym (j .1)) (j .0));
+        dearer = λ g r. subst (λ (x : ℕ). verdict M a .second < x) (weighs h g r) (subst (λ (x : ℕ). x < statedCost a) (sym (j .1)) (j .0));
       }

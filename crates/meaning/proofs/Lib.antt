@@ -6,6 +6,7 @@ pub mod Modes
 pub mod Ties
 pub mod Closing
 pub mod Best
+pub mod SidesRead
 pub mod Column
 pub mod Trace
 pub mod Index
@@ -16,15 +17,18 @@ pub mod Carried
 pub mod Rooms
 pub mod Rule
 pub mod Bounds
+pub mod Tells
+pub mod ReadChecks
 pub mod Call
 pub mod Judging
 pub mod Demand2
 pub mod Demand1
 pub mod Demand3
+pub mod Decoded
 pub mod Demands
-pub mod Tells
 pub mod VerdictChecks
 pub mod Verdicts
 pub mod LeastVerdicts
 pub mod OurLetters
 pub mod OwnAnswer
+pub mod JudgingCall

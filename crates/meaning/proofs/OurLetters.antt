@@ -10,31 +10,27 @@ use mathlib.Core.Path.{_≡_, refl, sym, ap, _∙_, subst}
 use native.Mathlib.Nat.{zero-add}
 use native.Mathlib.Omega.{arith}
 use Rattle.meaning.specs.Numbers.{bit}
-use Rattle.meaning.specs.Block.{Matrix, matrixOf}
+use Rattle.meaning.specs.Block.{Matrix}
 use Rattle.meaning.specs.Active.{count, read, at}
 use Rattle.meaning.specs.Division.{Side, Division}
 use Rattle.meaning.specs.Charge.{against, Sums, W, charge, leastCost, best}
 use Rattle.meaning.specs.Letters.{letterOf, general, reported, Haplotypes, haplotypes, disagreement}
 use Rattle.meaning.specs.Answer.{sidesOf, lettersOf}
 use Rattle.meaning.specs.Judge.{statedReads, statedColumns, statedDivision, statedLetter}
-use Rattle.meaning.proofs.Totals.{sum-ext}
-use Rattle.meaning.proofs.Lists.{getD-run}
+use Rattle.meaning.proofs.Totals.{bit-small, sum-ext}
 use Rattle.meaning.proofs.Sums.{sums-ext}
-use Rattle.meaning.proofs.Modes.{general-fair, cost-haplotypes}
+use Rattle.meaning.proofs.Modes.{charge-local, general-fair, cost-haplotypes}
 use Rattle.meaning.proofs.Ties.{reports}
 use Rattle.meaning.proofs.Closing.{Placed}
 use Rattle.meaning.proofs.Best.{best-least}
-use Rattle.meaning.proofs.VerdictChecks.{LikeCounts, GoodMarks, GoodDashes, statedWeight, ourMarks, matrix-reads, matrix-columns, length-sides, length-letters}
+use Rattle.meaning.proofs.AnswerBytes.{length-sides, side-of, length-letters, letter-of}
+use Rattle.meaning.proofs.VerdictChecks.{LikeCounts, GoodMarks, GoodDashes, statedWeight, ourMarks}
 use Rattle.meaning.proofs.LeastVerdicts.{Reading, either}
 
 -- what disagrees goes by the sides of the matrix's reads
 pub disagreement-ext : (M : Matrix) (d e : Division) (h : Haplotypes) → ((r : ℕ) → r < count M → d r ≡ e r) → disagreement M d h ≡ disagreement M e h
 unfolding disagreement
 disagreement-ext M d e h x = sum-ext (M .columns) (λ j l. sum-ext (count M) (λ r k. ap (λ (s : Side). against (h s j) (at (read M r) j)) (x r k)))
-
-bit-small : (x : Bool) → bit x ≤ 1
-bit-small true = omega arith
-bit-small false = omega arith
 
 reported-small : (w : Sums) (s : Side) → reported general w s ≤ 2
 reported-small w s = go (reports general w s .letter-or-dash)
@@ -43,11 +39,8 @@ reported-small w s = go (reports general w s .letter-or-dash)
     go (inl e) = omega (arith, bit-small (general .letter w s))
     go (inr e) = omega arith
 
--- an answer with the block's n and m that has our sides and letters behind its head
-module _ (b a : List ℕ) (counts : LikeCounts b a) (same : drop 17 a ≡ ourMarks (matrixOf b)) where
-  abbrev M : Matrix
-  M = matrixOf b
-
+-- an answer with the matrix's n and m that has our sides and letters behind its head
+module _ (M : Matrix) (a : List ℕ) (counts : LikeCounts M a) (same : drop 17 a ≡ ourMarks M) where
   abbrev d : Division
   d = best charge M
 
@@ -55,12 +48,11 @@ module _ (b a : List ℕ) (counts : LikeCounts b a) (same : drop 17 a ≡ ourMar
   our-byte i = sym (getD-drop 17 a i 0) ∙ ap (λ (l : List ℕ). getD l i 0) same
 
   our-side : (r : ℕ) → r < count M → getD a (17 + r) 0 ≡ bit (d r)
-  unfolding sidesOf
-  our-side r l = our-byte r ∙ List·getD-append (sidesOf M d) _ 0 r (omega (arith, length-sides M d)) ∙ getD-run 0 (count M) (λ q. bit (d q)) r 0 l ∙ ap (λ (q : ℕ). bit (d q)) (zero-add r)
+  our-side r l = our-byte r ∙ List·getD-append (sidesOf M d) _ 0 r (omega (arith, length-sides M d)) ∙ side-of M d r l
 
   our-division : (r : ℕ) → r < count M → statedDivision a r ≡ d r
   our-division r l =
-      ap (λ (x : ℕ). eqb x 1) (getD-take (statedReads a) (drop 17 a) r 0 (omega (arith, counts .reads, matrix-reads b)) ∙ getD-drop 17 a r 0 ∙ our-side r l)
+      ap (λ (x : ℕ). eqb x 1) (getD-take (statedReads a) (drop 17 a) r 0 (omega (arith, counts .reads)) ∙ getD-drop 17 a r 0 ∙ our-side r l)
       ∙ back (d r)
     where
       back : (x : Bool) → eqb (bit x) 1 ≡ x
@@ -68,22 +60,20 @@ module _ (b a : List ℕ) (counts : LikeCounts b a) (same : drop 17 a ≡ ourMar
       back false = refl
 
   our-letter : (s : Side) (j : ℕ) → j < M .columns → statedLetter a s j ≡ reported general (W M d j) s
-  unfolding lettersOf
   our-letter s j l =
-      ap (λ (i : ℕ). getD a i 0) (index (statedReads a) (length (sidesOf M d)) (cond s (statedColumns a) 0) j (counts .reads ∙ sym (matrix-reads b) ∙ sym (length-sides M d)))
+      ap (λ (i : ℕ). getD a i 0) (index (statedReads a) (length (sidesOf M d)) (cond s (statedColumns a) 0) j (counts .reads ∙ sym (length-sides M d)))
       ∙ our-byte (length (sidesOf M d) + (cond s (statedColumns a) 0 + j))
       ∙ getD-append-add (sidesOf M d) (lettersOf general M d false ++ lettersOf general M d true) (cond s (statedColumns a) 0 + j) 0
       ∙ by-side s
-      ∙ getD-run 0 (M .columns) (λ i. reported general (W M d i) s) j 0 l
-      ∙ ap (λ (i : ℕ). reported general (W M d i) s) (zero-add j)
+      ∙ letter-of M d general s j l
     where
       index : (n k x j : ℕ) → n ≡ k → 17 + n + x + j ≡ 17 + (k + (x + j))
       index n k x j e = omega arith
 
       by-side : (s : Side) → getD (lettersOf general M d false ++ lettersOf general M d true) (cond s (statedColumns a) 0 + j) 0 ≡ getD (lettersOf general M d s) j 0
-      by-side false = ap (λ (i : ℕ). getD (lettersOf general M d false ++ lettersOf general M d true) i 0) (zero-add j) ∙ List·getD-append (lettersOf general M d false) _ 0 j (omega (arith, length-letters M d false))
+      by-side false = ap (λ (i : ℕ). getD (lettersOf general M d false ++ lettersOf general M d true) i 0) (zero-add j) ∙ List·getD-append (lettersOf general M d false) _ 0 j (omega (arith, length-letters M d general false))
       by-side true =
-          ap (λ (i : ℕ). getD (lettersOf general M d false ++ lettersOf general M d true) (i + j) 0) (counts .columns ∙ sym (matrix-columns b) ∙ sym (length-letters M d false))
+          ap (λ (i : ℕ). getD (lettersOf general M d false ++ lettersOf general M d true) (i + j) 0) (counts .columns ∙ sym (length-letters M d general false))
           ∙ getD-append-add (lettersOf general M d false) (lettersOf general M d true) j 0
 
   our-sums : (j : ℕ) → W M (statedDivision a) j ≡ W M d j
@@ -92,8 +82,8 @@ module _ (b a : List ℕ) (counts : LikeCounts b a) (same : drop 17 a ≡ ourMar
   pub our-marks : GoodMarks a
   our-marks =
       record {
-        sides = λ r l. subst (λ (x : ℕ). x ≤ 1) (sym (our-side r (omega (arith, counts .reads, matrix-reads b)))) (bit-small (d r));
-        letters = λ s j l. let k : j < M .columns = omega (arith, counts .columns, matrix-columns b) in subst (λ (x : ℕ). x ≤ 2) (sym (our-letter s j k)) (reported-small (W M d j) s);
+        sides = λ r l. subst (λ (x : ℕ). x ≤ 1) (sym (our-side r (omega (arith, counts .reads)))) (bit-small (d r));
+        letters = λ s j l. let k : j < M .columns = omega (arith, counts .columns) in subst (λ (x : ℕ). x ≤ 2) (sym (our-letter s j k)) (reported-small (W M d j) s);
       }
 
   pub our-dashes : GoodDashes M a
@@ -113,4 +103,4 @@ module _ (b a : List ℕ) (counts : LikeCounts b a) (same : drop 17 a ≡ ourMar
       sym (either M a our-dashes (haplotypes general M d) our-reading)
       ∙ disagreement-ext M (statedDivision a) d (haplotypes general M d) our-division
       ∙ cost-haplotypes general general-fair M d
-      ∙ best-least charge M p
+      ∙ best-least charge M (charge-local M) p

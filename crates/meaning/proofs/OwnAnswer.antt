@@ -1,15 +1,16 @@
 -- 57, ours: given exactly to an answer that is ours but for its number of flips, and so to our own.
-use Prim.Native.Nat.{ℕ, zero, suc, suc-le-suc, _+_, _*_, _-_, _/_, _%_, _≤_, _<_, _^_}
+use Prim.Native.Nat.{ℕ, zero, suc, _+_, _*_, _/_, _%_, _≤_, _<_, _^_}
 use lib.ListN.{length, getD, take, drop, take-append-drop, length-drop}
 use lib.Seq.{take-suc, drop-cons, drop-drop, getD-drop}
 use mathlib.Core.Bool.{true, false}
 use mathlib.Core.List.{List, [], _∷_, _++_, append-nil}
 use mathlib.Core.Logic.{_↔_}
 use mathlib.Core.Path.{_≡_, refl, sym, ap, _∙_, subst, ap₂}
-use native.Mathlib.Nat.{le-trans}
+use native.Mathlib.Nat.{le-trans, le-of-eq}
 use native.Mathlib.Omega.{arith}
 use Rattle.meaning.specs.Numbers.{bigEndian, long, bytesOf}
-use Rattle.meaning.specs.Block.{versionField, columnsField, readsField, matrixOf}
+use Rattle.meaning.specs.Block.{Matrix, matrixOf}
+use Rattle.meaning.specs.Active.{count}
 use Rattle.meaning.specs.Division.{Side, Division}
 use Rattle.meaning.specs.Charge.{charge, leastCost, best}
 use Rattle.meaning.specs.Letters.{general, haplotypes, flips}
@@ -18,66 +19,67 @@ use Rattle.meaning.specs.Refusals.{Numbers}
 use Rattle.meaning.specs.Judge.{statedLength, statedCost, statedReads, statedColumns, verdict}
 use Rattle.meaning.proofs.Modes.{general-fair}
 use Rattle.meaning.proofs.Closing.{Placed}
-use Rattle.meaning.proofs.Formed.{Accepted, formed-placed}
-use Rattle.meaning.proofs.Bounds.{Bytes, cost-limit}
-use Rattle.meaning.proofs.AnswerBytes.{version-is, length-is, cost-is, reads-is, columns-is, block-length}
-use Rattle.meaning.proofs.VerdictChecks.{GoodForm, LikeCounts, Honest, ourMarks, ourAnswer, own-part, matrix-reads, matrix-columns, length-sides, length-letters}
+use Rattle.meaning.proofs.Formed.{Accepted, formed-placed, matrix-reads, matrix-columns}
+use Rattle.meaning.proofs.Bounds.{Bytes}
+use Rattle.meaning.proofs.Decoded.{cost-fits}
+use Rattle.meaning.proofs.AnswerBytes.{version-is, length-is, cost-is, reads-is, columns-is, block-length, length-sides, length-letters}
+use Rattle.meaning.proofs.VerdictChecks.{GoodForm, LikeCounts, Honest, ourMarks, ourAnswer, own-part}
 use Rattle.meaning.proofs.Verdicts.{ours-row, verdict-only, honest-exactly, judged-57}
 use Rattle.meaning.proofs.OurLetters.{our-marks, our-dashes, our-weight}
 
 -- an answer that is ours in every field but the number of flips
-pub record Ours (b a : List ℕ) : Type 0 where
+pub record Ours (M : Matrix) (a : List ℕ) : Type 0 where
   pub form : GoodForm a
-  pub counts : LikeCounts b a
-  pub cost : statedCost a ≡ leastCost charge (matrixOf b)
-  pub marks : drop 17 a ≡ ourMarks (matrixOf b)
+  pub counts : LikeCounts M a
+  pub cost : statedCost a ≡ leastCost charge M
+  pub marks : drop 17 a ≡ ourMarks M
 
 -- 57 is given exactly to these
-pub ours-exactly : (b a : List ℕ) → Placed (matrixOf b) → (verdict b a ≡ record { number = 57; second = 0 }) ↔ Ours b a
-ours-exactly b a p = (λ v. told (ap (λ (x : Numbers). x .number) v), λ o. verdict-only b a (ours-row (honest o) (o .cost) (o .marks)))
+pub ours-exactly : (M : Matrix) (a : List ℕ) → Placed M → (verdict M a ≡ record { number = 57; second = 0 }) ↔ Ours M a
+ours-exactly M a p = (λ v. told (ap (λ (x : Numbers). x .number) v), λ o. verdict-only M a (ours-row (honest o) (o .cost) (o .marks)))
   where
-    told : verdict b a .number ≡ 57 → Ours b a
+    told : verdict M a .number ≡ 57 → Ours M a
     told n =
-        let h = honest-exactly b a .0 (subst (λ (i : ℕ). 54 < i) (sym n) (omega arith)) in
-        record { form = h .form; counts = h .counts; cost = judged-57 b a n .0; marks = judged-57 b a n .1 }
+        let h = honest-exactly M a .0 (subst (λ (i : ℕ). 54 < i) (sym n) (omega arith)) in
+        record { form = h .form; counts = h .counts; cost = judged-57 M a n .0; marks = judged-57 M a n .1 }
 
-    honest : Ours b a → Honest b a
+    honest : Ours M a → Honest M a
     honest o =
         record {
           form = o .form;
           counts = o .counts;
-          marks = our-marks b a (o .counts) (o .marks);
-          dashes = our-dashes b a (o .counts) (o .marks);
-          cost = o .cost ∙ sym (our-weight b a (o .counts) (o .marks) p);
+          marks = our-marks M a (o .counts) (o .marks);
+          dashes = our-dashes M a (o .counts) (o .marks);
+          cost = o .cost ∙ sym (our-weight M a (o .counts) (o .marks) p);
         }
 
 -- where n and m are at most 1,024 and the cost fits its field, our answer with any number of flips is such
-answer-ours : (b : List ℕ) (f : ℕ) → readsField b ≤ 1024 → columnsField b ≤ 1024 → leastCost charge (matrixOf b) < 2 ^ 32 → (a : List ℕ) → a ≡ ourAnswer (matrixOf b) f ++ [] → Ours b a
-answer-ours b f few-reads few-columns fits a e =
+answer-ours : (M : Matrix) (f : ℕ) → count M ≤ 1024 → M .columns ≤ 1024 → leastCost charge M < 2 ^ 32 → (a : List ℕ) → a ≡ ourAnswer M f ++ [] → Ours M a
+answer-ours M f few-reads few-columns fits a e =
     record {
       form = record { headed = omega (arith, size); version = rw e (version-is c f sides hap1 hap2 []); whole = omega (arith, size, m false, m true, stated); counted = omega (arith, stated, reads, columns) };
       counts = record { reads = reads ∙ n; columns = columns ∙ m false };
       cost = rw e (cost-is c f sides hap1 hap2 [] fits);
-      marks = ap (drop 17) (e ∙ append-nil (ourAnswer (matrixOf b) f)) ∙ own-part (matrixOf b) f;
+      marks = ap (drop 17) (e ∙ append-nil (ourAnswer M f)) ∙ own-part M f;
     }
   where
     c : ℕ
-    c = leastCost charge (matrixOf b)
+    c = leastCost charge M
 
     sides : List ℕ
-    sides = sidesOf (matrixOf b) (best charge (matrixOf b))
+    sides = sidesOf M (best charge M)
 
     hap1 : List ℕ
-    hap1 = lettersOf general (matrixOf b) (best charge (matrixOf b)) false
+    hap1 = lettersOf general M (best charge M) false
 
     hap2 : List ℕ
-    hap2 = lettersOf general (matrixOf b) (best charge (matrixOf b)) true
+    hap2 = lettersOf general M (best charge M) true
 
-    n : length sides ≡ readsField b
-    n = length-sides (matrixOf b) (best charge (matrixOf b)) ∙ matrix-reads b
+    n : length sides ≡ count M
+    n = length-sides M (best charge M)
 
-    m : (s : Side) → length (lettersOf general (matrixOf b) (best charge (matrixOf b)) s) ≡ columnsField b
-    m s = length-letters (matrixOf b) (best charge (matrixOf b)) s ∙ matrix-columns b
+    m : (s : Side) → length (lettersOf general M (best charge M) s) ≡ M .columns
+    m s = length-letters M (best charge M) general s
 
     few-sides : length sides ≤ 1024
     few-sides = omega (arith, n)
@@ -99,23 +101,13 @@ answer-ours b f few-reads few-columns fits a e =
 
 -- of an accepted block, of version 1 or 2
 module _ (newest : ℕ) (known : newest ≤ 2) (b : List ℕ) (bytes : Bytes b) (work out : ℕ) (acc : Accepted newest b work out) where
-  -- the cost fits its field
-  pub cost-fits : leastCost charge (matrixOf b) < 2 ^ 32
-  cost-fits = le-trans (suc-le-suc (cost-limit general general-fair newest b work out bytes acc)) (fits (versionField b) (le-trans (acc .block .head .known) known))
-    where
-      fits : (v : ℕ) → v ≤ 2 → 12288 * (256 ^ v - 1) < 2 ^ 32
-      fits zero h = omega arith
-      fits (suc zero) h = omega arith
-      fits (suc (suc zero)) h = omega arith
-      fits (suc (suc (suc v))) h = let z : ⊥ = omega arith in absurd z
-
   -- our answer gets 57, whatever number of flips it states, and so with its own
-  pub ours-is-57 : (f : ℕ) → verdict b (ourAnswer (matrixOf b) f) ≡ record { number = 57; second = 0 }
+  pub ours-is-57 : (f : ℕ) → verdict (matrixOf b) (ourAnswer (matrixOf b) f) ≡ record { number = 57; second = 0 }
   ours-is-57 f =
-      ours-exactly b (ourAnswer (matrixOf b) f) (formed-placed newest b (acc .block)) .1
-      (answer-ours b f (acc .block .head .few-reads) (acc .block .head .few-columns) cost-fits (ourAnswer (matrixOf b) f) (sym (append-nil (ourAnswer (matrixOf b) f))))
+      ours-exactly (matrixOf b) (ourAnswer (matrixOf b) f) (formed-placed newest b (acc .block)) .1
+      (answer-ours (matrixOf b) f (le-trans (le-of-eq (matrix-reads b)) (acc .block .head .few-reads)) (le-trans (le-of-eq (matrix-columns b)) (acc .block .head .few-columns)) (cost-fits general general-fair newest known b bytes work out acc) (ourAnswer (matrixOf b) f) (sym (append-nil (ourAnswer (matrixOf b) f))))
 
-  pub answer-is-57 : verdict b (answer general (matrixOf b)) ≡ record { number = 57; second = 0 }
+  pub answer-is-57 : verdict (matrixOf b) (answer general (matrixOf b)) ≡ record { number = 57; second = 0 }
   unfolding answer
   answer-is-57 = ours-is-57 (flips (matrixOf b) (best charge (matrixOf b)) (haplotypes general (matrixOf b) (best charge (matrixOf b))))
 
@@ -136,33 +128,33 @@ field-bytes a y (suc n) i l =
     low x z l = omega arith
 
 -- ours is byte for byte but for the number of flips
-pub ours-byte-for-byte : (b a : List ℕ) → Bytes a → verdict b a .number ≡ 57 → a ≡ ourAnswer (matrixOf b) (long a 9)
+pub ours-byte-for-byte : (M : Matrix) (a : List ℕ) → Bytes a → verdict M a .number ≡ 57 → a ≡ ourAnswer M (long a 9)
 unfolding answerBytes
-ours-byte-for-byte b a y v =
+ours-byte-for-byte M a y v =
     drop-cons a 0 0 (omega (arith, form .headed))
     ∙ ap₂ _∷_ (form .version)
     (field 1 4 _ _ (omega (arith, form .headed)) size
-    (field 5 4 _ _ (omega (arith, form .headed)) (judged-57 b a v .0)
+    (field 5 4 _ _ (omega (arith, form .headed)) (judged-57 M a v .0)
     (field 9 4 _ _ (omega (arith, form .headed)) refl
     (field 13 2 _ _ (omega (arith, form .headed)) reads
-    (field 15 2 _ _ (omega (arith, form .headed)) columns (judged-57 b a v .1))))))
+    (field 15 2 _ _ (omega (arith, form .headed)) columns (judged-57 M a v .1))))))
   where
     d : Division
-    d = best charge (matrixOf b)
+    d = best charge M
 
-    honest : Honest b a
-    honest = honest-exactly b a .0 (subst (λ (i : ℕ). 54 < i) (sym v) (omega arith))
+    honest : Honest M a
+    honest = honest-exactly M a .0 (subst (λ (i : ℕ). 54 < i) (sym v) (omega arith))
 
     form : GoodForm a
     form = honest .form
 
-    reads : statedReads a ≡ length (sidesOf (matrixOf b) d)
-    reads = honest .counts .reads ∙ sym (matrix-reads b) ∙ sym (length-sides (matrixOf b) d)
+    reads : statedReads a ≡ length (sidesOf M d)
+    reads = honest .counts .reads ∙ sym (length-sides M d)
 
-    columns : statedColumns a ≡ length (lettersOf general (matrixOf b) d false)
-    columns = honest .counts .columns ∙ sym (matrix-columns b) ∙ sym (length-letters (matrixOf b) d false)
+    columns : statedColumns a ≡ length (lettersOf general M d false)
+    columns = honest .counts .columns ∙ sym (length-letters M d general false)
 
-    size : statedLength a ≡ 12 + length (sidesOf (matrixOf b) d) + 2 * length (lettersOf general (matrixOf b) d false)
+    size : statedLength a ≡ 12 + length (sidesOf M d) + 2 * length (lettersOf general M d false)
     size = omega (arith, form .counted, reads, columns)
 
     field : (i n x : ℕ) (rest : List ℕ) → i + n ≤ length a → bigEndian n a i ≡ x → drop (i + n) a ≡ rest → drop i a ≡ bytesOf n x ++ rest

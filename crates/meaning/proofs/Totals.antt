@@ -7,7 +7,11 @@ use mathlib.Core.Logic.{_≢_}
 use mathlib.Core.Path.{_≡_, refl, sym, ap, _∙_, ap₂}
 use native.Mathlib.Nat.{not-suc-le-zero, add-zero, le-of-eq, le-trans, le-refl, min-le-left, min-le-right, add-suc}
 use native.Mathlib.Omega.{arith}
-use Rattle.meaning.specs.Numbers.{sumTo, maxTo, minTo}
+use Rattle.meaning.specs.Numbers.{bit, sumTo, maxTo, minTo}
+
+pub bit-small : (b : Bool) → bit b ≤ 1
+bit-small true = le-refl 1
+bit-small false = zero-le
 
 pub sum-ext : (n : ℕ) {f g : ℕ → ℕ} → ((i : ℕ) → i < n → f i ≡ g i) → sumTo n f ≡ sumTo n g
 unfolding sumTo

@@ -10,20 +10,17 @@ use mathlib.Core.Logic.{_≢_, _↔_, Iff·rfl, _⊎_}
 use mathlib.Core.Path.{_≡_, refl, sym, ap, _∙_, subst}
 use native.Mathlib.Nat.{le-of-eq, le-trans, le-antisymm}
 use native.Mathlib.Omega.{arith}
-use Rattle.meaning.specs.Numbers.{bit}
-use Rattle.meaning.specs.Block.{Matrix, columnsField, readsField, cellSize, readsPart, matrixOf}
+use Rattle.meaning.specs.Block.{Matrix}
 use Rattle.meaning.specs.Active.{count}
 use Rattle.meaning.specs.Division.{Side, Division}
 use Rattle.meaning.specs.Charge.{W, charge, leastCost, best}
-use Rattle.meaning.specs.Letters.{general, tied, reported, haplotypes, flips, Haplotypes, disagreement}
+use Rattle.meaning.specs.Letters.{general, tied, haplotypes, flips, Haplotypes, disagreement}
 use Rattle.meaning.specs.Answer.{answerBytes, sidesOf, lettersOf, answer}
 use Rattle.meaning.specs.Judge.{statedLength, statedCost, statedReads, statedColumns, statedDivision, statedLetter, statedHaplotypes, malformed, otherCounts, unknownMark, falseDashAt, falseDash, wrongCost, notLeast, otherAnswer}
-use Rattle.meaning.proofs.Lists.{length-run}
 use Rattle.meaning.proofs.Tells.{Tells, in-other-words, tells-below, tells-other, tells-equal, tells-or, tells-and, tells-any, tells-sides}
-use Rattle.meaning.proofs.Formed.{length-reads}
-use Rattle.meaning.proofs.Modes.{general-fair, cost-below}
+use Rattle.meaning.proofs.Modes.{charge-local, general-fair, cost-below}
 use Rattle.meaning.proofs.Best.{least-cost-below}
-use Rattle.meaning.proofs.AnswerBytes.{behind}
+use Rattle.meaning.proofs.AnswerBytes.{behind, length-sides, length-letters}
 
 -- What each check finds, and what it leaves. 50: fewer than 17 bytes, version not 2, or a length field that is not both the bytes after byte 4 and
 -- 12 + n + 2m of the answer's own n and m
@@ -37,12 +34,12 @@ pub record GoodForm (a : List ℕ) : Type 0 where
   pub counted : statedLength a ≡ 12 + statedReads a + 2 * statedColumns a
 
 -- 51: other n or m
-abbrev pub UnlikeCounts : List ℕ → List ℕ → Type 0
-UnlikeCounts b a = (statedReads a ≢ readsField b) ⊎ (statedColumns a ≢ columnsField b)
+abbrev pub UnlikeCounts : Matrix → List ℕ → Type 0
+UnlikeCounts M a = (statedReads a ≢ count M) ⊎ (statedColumns a ≢ M .columns)
 
-pub record LikeCounts (b a : List ℕ) : Type 0 where
-  pub reads : statedReads a ≡ readsField b
-  pub columns : statedColumns a ≡ columnsField b
+pub record LikeCounts (M : Matrix) (a : List ℕ) : Type 0 where
+  pub reads : statedReads a ≡ count M
+  pub columns : statedColumns a ≡ M .columns
 
 -- 52: a side above 1 or a letter above 2
 abbrev pub BadMark : List ℕ → Type 0
@@ -64,12 +61,12 @@ abbrev pub statedWeight : Matrix → List ℕ → ℕ
 statedWeight M a = disagreement M (statedDivision a) (statedHaplotypes a)
 
 -- none of 50 to 54
-pub record Honest (b a : List ℕ) : Type 0 where
+pub record Honest (M : Matrix) (a : List ℕ) : Type 0 where
   pub form : GoodForm a
-  pub counts : LikeCounts b a
+  pub counts : LikeCounts M a
   pub marks : GoodMarks a
-  pub dashes : GoodDashes (matrixOf b) a
-  pub cost : statedCost a ≡ statedWeight (matrixOf b) a
+  pub dashes : GoodDashes M a
+  pub cost : statedCost a ≡ statedWeight M a
 
 -- our sides and our letters of both haplotypes
 abbrev pub ourMarks : Matrix → List ℕ
@@ -80,15 +77,6 @@ abbrev pub ourAnswer : Matrix → ℕ → List ℕ
 ourAnswer M f =
     answerBytes (leastCost charge M) f (sidesOf M (best charge M)) (lettersOf general M (best charge M) false) (lettersOf general M (best charge M) true)
 
--- the matrix has the block's n and m
-pub matrix-reads : (b : List ℕ) → count (matrixOf b) ≡ readsField b
-unfolding matrixOf
-matrix-reads b = length-reads (cellSize b) (readsField b) (readsPart b)
-
-pub matrix-columns : (b : List ℕ) → matrixOf b .columns ≡ columnsField b
-unfolding matrixOf
-matrix-columns b = refl
-
 -- each check tells whether its row applies
 pub form-tells : (a : List ℕ) → Tells (malformed a) (BadForm a) (GoodForm a)
 unfolding malformed
@@ -96,11 +84,11 @@ form-tells a =
     in-other-words Iff·rfl (λ p. record { headed = p .0; version = p .1 .0; whole = p .1 .1 .0; counted = p .1 .1 .1 }, λ f. (f .headed, (f .version, (f .whole, f .counted))))
     (tells-or (tells-below (length a) 17) (tells-or (tells-other (getD a 0 0) 2) (tells-or (tells-other (statedLength a) (length a - 5)) (tells-other (statedLength a) _))))
 
-pub counts-tell : (b a : List ℕ) → Tells (otherCounts b a) (UnlikeCounts b a) (LikeCounts b a)
+pub counts-tell : (M : Matrix) (a : List ℕ) → Tells (otherCounts M a) (UnlikeCounts M a) (LikeCounts M a)
 unfolding otherCounts
-counts-tell b a =
+counts-tell M a =
     in-other-words Iff·rfl (λ p. record { reads = p .0; columns = p .1 }, λ c. (c .reads, c .columns))
-    (tells-or (tells-other (statedReads a) (readsField b)) (tells-other (statedColumns a) (columnsField b)))
+    (tells-or (tells-other (statedReads a) (count M)) (tells-other (statedColumns a) (M .columns)))
 
 -- the 2m letters, by sides and columns
 sided : (m i : ℕ) → i < 2 * m → (s : Side) × (j : ℕ) × (j < m) × (i ≡ cond s m 0 + j)
@@ -155,7 +143,7 @@ cost-tells M a = tells-other (statedCost a) (statedWeight M a)
 
 -- nothing costs less than the least cost
 pub none-below : (M : Matrix) (d : Division) (h : Haplotypes) → leastCost charge M ≤ disagreement M d h
-none-below M d h = le-trans (least-cost-below charge M d) (cost-below general general-fair M d h (λ j l. refl))
+none-below M d h = le-trans (least-cost-below charge M (charge-local M) d) (cost-below general general-fair M d h (λ j l. refl))
 
 pub least-tells : (M : Matrix) (a : List ℕ) → statedCost a ≡ statedWeight M a → Tells (notLeast M a) (leastCost charge M < statedCost a) (statedCost a ≡ leastCost charge M)
 unfolding notLeast
@@ -173,14 +161,6 @@ own-part M f =
     d : Division
     d = best charge M
 
-pub length-sides : (M : Matrix) (d : Division) → length (sidesOf M d) ≡ count M
-unfolding sidesOf
-length-sides M d = length-run 0 (count M) (λ r. bit (d r))
-
-pub length-letters : (M : Matrix) (d : Division) (s : Side) → length (lettersOf general M d s) ≡ M .columns
-unfolding lettersOf
-length-letters M d s = length-run 0 (M .columns) (λ j. reported general (W M d j) s)
-
 length-ours : (M : Matrix) → length (ourMarks M) ≡ count M + 2 * M .columns
 length-ours M =
     omega (
@@ -188,16 +168,16 @@ length-ours M =
       length-append (sidesOf M d) (lettersOf general M d false ++ lettersOf general M d true),
       length-append (lettersOf general M d false) (lettersOf general M d true),
       length-sides M d,
-      length-letters M d false,
-      length-letters M d true,
+      length-letters M d general false,
+      length-letters M d general true,
     )
   where
     d : Division
     d = best charge M
 
 -- an answer of the right form and counts has as many bytes as ours
-pub same-length : (b a : List ℕ) → GoodForm a → LikeCounts b a → length a ≡ 17 + (count (matrixOf b) + 2 * matrixOf b .columns)
-same-length b a f c = omega (arith, f .headed, f .whole, f .counted, c .reads, c .columns, matrix-reads b, matrix-columns b)
+pub same-length : (M : Matrix) (a : List ℕ) → GoodForm a → LikeCounts M a → length a ≡ 17 + (count M + 2 * M .columns)
+same-length M a f c = omega (arith, f .headed, f .whole, f .counted, c .reads, c .columns)
 
 pub answer-tells : (M : Matrix) (a : List ℕ) → length a ≡ 17 + (count M + 2 * M .columns) → Tells (otherAnswer M a) (drop 17 a ≢ ourMarks M) (drop 17 a ≡ ourMarks M)
 unfolding otherAnswer answer

@@ -80,5 +80,9 @@ afterReads (suc n) b = afterReads n (afterRead b)
 abbrev pub readsPart : List ℕ → List ℕ
 readsPart b = drop 9 b
 
+-- the matrix of n reads that lie in b one after the other, in cells of `size` bytes, with m columns
+abbrev pub matrixFrom : ℕ → ℕ → ℕ → List ℕ → Matrix
+matrixFrom size m n b = record { columns = m; reads = readsOf size n b }
+
 unfoldable pub matrixOf : List ℕ → Matrix
-matrixOf b = record { columns = columnsField b; reads = readsOf (cellSize b) (readsField b) (readsPart b) }
+matrixOf b = matrixFrom (cellSize b) (columnsField b) (readsField b) (readsPart b)

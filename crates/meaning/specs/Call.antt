@@ -5,12 +5,12 @@ use mathlib.Core.Bool.{cond}
 use mathlib.Core.List.{List, _++_}
 use lib.ListN.{length, take, drop}
 use lib.Dec.{eqb}
-use Rattle.meaning.specs.Block.{matrixOf}
+use Rattle.meaning.specs.Block.{Matrix, matrixOf}
 use Rattle.meaning.specs.Charge.{leastCost}
-use Rattle.meaning.specs.Letters.{Mode, general}
+use Rattle.meaning.specs.Letters.{Mode, chargeIn, general}
 use Rattle.meaning.specs.Table.{table}
 use Rattle.meaning.specs.Answer.{answer}
-use Rattle.meaning.specs.Refusals.{Numbers, refusal}
+use Rattle.meaning.specs.Refusals.{Numbers, matrixRefusal, refusal}
 
 pub record Result : Type 0 where
   pub number : ℕ
@@ -27,13 +27,13 @@ abbrev pub laid : ℕ → List ℕ → List ℕ → List ℕ
 laid at new old = take at old ++ (new ++ drop (at + length new) old)
 
 -- acceptance: the cost, the table and the answer block; what lies beyond them is kept
-unfoldable pub accepts : Mode → List ℕ → List ℕ → List ℕ → Result
-accepts mode b work out =
+unfoldable pub accepts : Mode → Matrix → List ℕ → List ℕ → Result
+accepts mode M work out =
     record {
       number = 0;
-      second = leastCost (mode .charged) (matrixOf b);
-      work = over (table (mode .charged) (matrixOf b)) work;
-      out = over (answer mode (matrixOf b)) out;
+      second = leastCost (chargeIn mode) M;
+      work = over (table (chargeIn mode) M) work;
+      out = over (answer mode M) out;
     }
 
 -- refusal: both rooms as they were
@@ -44,7 +44,13 @@ refuses given work out = record { number = given .number; second = given .second
 unfoldable pub callWith : Mode → ℕ → List ℕ → List ℕ → List ℕ → Result
 callWith mode newest b work out =
     let given = refusal newest b (length work) (length out) in
-    cond (eqb (given .number) 0) (accepts mode b work out) (refuses given work out)
+    cond (eqb (given .number) 0) (accepts mode (matrixOf b) work out) (refuses given work out)
+
+-- the same behind the checks 1 to 8: of the matrix alone
+unfoldable pub callOn : Mode → Matrix → List ℕ → List ℕ → Result
+callOn mode M work out =
+    let given = matrixRefusal M (length work) (length out) in
+    cond (eqb (given .number) 0) (accepts mode M work out) (refuses given work out)
 
 -- what `phase` does with a block, a work room and an output
 unfoldable pub call : List ℕ → List ℕ → List ℕ → Result

@@ -6,14 +6,14 @@ use mathlib.Core.List.{List}
 use lib.ListN.{length, getD, take, drop}
 use lib.Dec.{ltb, eqb}
 use Rattle.meaning.specs.Numbers.{anyTo, word, long}
-use Rattle.meaning.specs.Block.{Matrix, columnsField, readsField, matrixOf}
+use Rattle.meaning.specs.Block.{Matrix, matrixOf}
 use Rattle.meaning.specs.Active.{count}
 use Rattle.meaning.specs.Division.{Side, Division}
 use Rattle.meaning.specs.Charge.{W, charge, leastCost}
 use Rattle.meaning.specs.Letters.{general, tied, Haplotypes, disagreement}
 use Rattle.meaning.specs.Table.{table}
 use Rattle.meaning.specs.Answer.{divisionOf, answer, answerSize}
-use Rattle.meaning.specs.Refusals.{Numbers, refuse, orElse, refusal}
+use Rattle.meaning.specs.Refusals.{Numbers, refuse, orElse, matrixRefusal, refusal}
 use Rattle.meaning.specs.Call.{over}
 
 -- what the answer says of itself: the bytes that follow byte 4, its cost, its n and its m
@@ -50,8 +50,8 @@ malformed a =
     || not (eqb (statedLength a) (12 + statedReads a + 2 * statedColumns a))))
 
 -- 51: other n or m
-unfoldable pub otherCounts : List ℕ → List ℕ → Bool
-otherCounts b a = not (eqb (statedReads a) (readsField b)) || not (eqb (statedColumns a) (columnsField b))
+unfoldable pub otherCounts : Matrix → List ℕ → Bool
+otherCounts M a = not (eqb (statedReads a) (count M)) || not (eqb (statedColumns a) (M .columns))
 
 -- 52: a side above 1 or a letter above 2
 unfoldable pub unknownMark : List ℕ → Bool
@@ -79,11 +79,10 @@ unfoldable pub otherAnswer : Matrix → List ℕ → Bool
 otherAnswer M a = anyTo (count M + 2 * M .columns) (λ i. not (eqb (getD a (17 + i) 0) (getD (answer general M) (17 + i) 0)))
 
 -- the first that applies; 57, ours, if none does
-unfoldable pub verdict : List ℕ → List ℕ → Numbers
-verdict b a =
-    let M = matrixOf b in
+unfoldable pub verdict : Matrix → List ℕ → Numbers
+verdict M a =
     orElse (refuse (malformed a) 50 0)
-    (orElse (refuse (otherCounts b a) 51 0)
+    (orElse (refuse (otherCounts M a) 51 0)
     (orElse (refuse (unknownMark a) 52 0)
     (orElse (refuse (falseDash M a) 53 0)
     (orElse (refuse (wrongCost M a) 54 0)
@@ -98,14 +97,24 @@ pub record Judged : Type 0 where
   pub work : List ℕ
 
 -- a verdict, and the table in the work room
-unfoldable pub judges : List ℕ → List ℕ → List ℕ → Judged
-judges b a work = record { number = verdict b a .number; second = verdict b a .second; work = over (table charge (matrixOf b)) work }
+unfoldable pub judges : Matrix → List ℕ → List ℕ → Judged
+judges M a work = record { number = verdict M a .number; second = verdict M a .second; work = over (table charge M) work }
 
--- a refusal of the fragment block comes first and leaves the room as it was: 1 to 10, as of a call with room for its answer
+-- a refusal: the room as it was
+unfoldable pub rejects : Numbers → List ℕ → Judged
+rejects given work = record { number = given .number; second = given .second; work = work }
+
+-- the refusals of the fragment block come first: 1 to 10, as of a call with room for its answer
 unfoldable pub judgingWith : ℕ → List ℕ → List ℕ → List ℕ → Judged
 judgingWith newest b a work =
     let given = refusal newest b (length work) (answerSize (matrixOf b)) in
-    cond (eqb (given .number) 0) (judges b a work) (record { number = given .number; second = given .second; work = work })
+    cond (eqb (given .number) 0) (judges (matrixOf b) a work) (rejects given work)
+
+-- the same behind the checks 1 to 8: of the matrix alone
+unfoldable pub judgingOn : Matrix → List ℕ → List ℕ → Judged
+judgingOn M a work =
+    let given = matrixRefusal M (length work) (answerSize M) in
+    cond (eqb (given .number) 0) (judges M a work) (rejects given work)
 
 -- what `judge` does with a block, a builder's answer and a work room
 unfoldable pub judging : List ℕ → List ℕ → List ℕ → Judged

@@ -98,10 +98,13 @@ blockRefusal newest b =
     (orElse (readsFault (cellSize b) (columnsField b) (readsField b) 0 (readsPart b))
     (refuse (leftOver b) 8 0))
 
--- all of them, for a work room of so many entries and an output of so many bytes
+-- the checks 9 to 11, of the matrix, for a work room of so many entries and an output of so many bytes
+unfoldable pub matrixRefusal : Matrix → ℕ → ℕ → Numbers
+matrixRefusal M work out =
+    orElse (crowded (activeCount M) 0 (M .columns))
+    (orElse (refuse (ltb work (workSize M)) 10 (workSize M))
+    (refuse (ltb out (answerSize M)) 11 (answerSize M)))
+
+-- all of them
 unfoldable pub refusal : ℕ → List ℕ → ℕ → ℕ → Numbers
-refusal newest b work out =
-    orElse (blockRefusal newest b)
-    (orElse (crowded (activeCount (matrixOf b)) 0 (columnsField b))
-    (orElse (refuse (ltb work (workSize (matrixOf b))) 10 (workSize (matrixOf b)))
-    (refuse (ltb out (answerSize (matrixOf b))) 11 (answerSize (matrixOf b)))))
+refusal newest b work out = orElse (blockRefusal newest b) (matrixRefusal (matrixOf b) work out)

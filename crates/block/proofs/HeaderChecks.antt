@@ -1,4 +1,4 @@
--- The checks 1 to 4 as the branches of `check_header` meet them. Assumes nothing.
+-- The checks 1 to 4 as the branches of `check_header` meet them.
 use Prim.Native.Nat.{ℕ, _-_, _≤_, _<_}
 use mathlib.Core.Bool.{Bool, true, false, _||_, or-true}
 use mathlib.Core.List.{List}
@@ -9,8 +9,9 @@ use lib.ListN.{length}
 use lib.Dec.{eqb, ltb}
 use borrow.Author.Tests.{lt-ltb, le-ltb, eq-eqb, ne-eqb, eqb-false}
 use Rattle.meaning.specs.Block.{versionField, sizeField, columnsField, readsField}
-use Rattle.block.specs.Answers.{Sized}
 use Rattle.meaning.specs.Refusals.{passed, refuse, orElse, short, otherVersion, otherSize, badCounts, headerRefusal}
+use Rattle.layout.specs.declared.Shape.{Shape}
+use Rattle.block.specs.Answers.{Sized}
 
 module _ (b : List ℕ) where
   pub is-short : length b < 9 → record { number = 1; second = 0 } ≡ headerRefusal 1 b
@@ -59,9 +60,9 @@ module _ (b : List ℕ) where
       unfolding badCounts refuse
       many-reads h = by-counts true (simp (lt-ltb 1024 (readsField b) h, or-true))
 
-      pub is-sized : (m n : ℕ) → Sized b m n → passed ≡ headerRefusal 1 b
+      pub is-sized : {s : Shape} → Sized b s → passed ≡ headerRefusal 1 b
       unfolding badCounts refuse
-      is-sized m n s =
+      is-sized s =
           let z : columnsField b ≢ 0 = omega arith in
           let c : columnsField b ≤ 1024 = omega arith in
           let r : readsField b ≤ 1024 = omega arith in

@@ -1,9 +1,6 @@
-pub mod Fields
 pub mod HeaderChecks
 pub mod CellChecks
 pub mod HeadChecks
 pub mod Walk
 pub mod BlockChecks
-pub mod Laws
 pub mod PlacesNoted
-pub mod Cuts

@@ -1,17 +1,20 @@
--- The walk over the reads: one read as the loops of `first_fault` meet it, and what is left to do after it. Assumes nothing.
+-- The walk over the reads: one read as the loops of `first_fault` meet it, and what is left to do after it.
 use Prim.Native.Nat.{ℕ, suc, _+_, _-_, _*_, _/_, _≤_, _<_}
 use mathlib.Core.Bool.{Bool, true, false, cond}
 use mathlib.Core.List.{List}
 use mathlib.Core.Logic.{_≢_}
 use mathlib.Core.Path.{_≡_, sym, ap, ap₂, _∙_}
+use native.Mathlib.Nat.{div-eq-of-eq-mul-right, div-le-self}
 use native.Mathlib.Numerals.{add-one}
 use native.Mathlib.Omega.{arith}
 use lib.ListN.{length, take, drop, length-take, length-drop}
+use lib.Dec.{eqb}
 use lib.Seq.{drop-drop}
 use borrow.Author.Tests.{eq-eqb, ne-eqb}
 use Rattle.meaning.specs.Numbers.{anyTo}
-use Rattle.meaning.specs.Block.{lengthField, cellCount, cellsPart, cellAt, afterRead, afterReads, readsPart}
-use Rattle.meaning.specs.Refusals.{passed, badLength, badPlace, badCells, readFault, readsFault}
+use Rattle.meaning.specs.Block.{lengthField, cellCount, cellsPart, cellAt, afterRead, afterReads}
+use Rattle.meaning.specs.Refusals.{Numbers, passed, badLength, badPlace, badCells, readFault, readsFault}
+use Rattle.layout.specs.declared.Shape.{Shape}
 use Rattle.block.specs.Answers.{headFault, CellsLie}
 use Rattle.block.specs.Cells.{faultyCell}
 use Rattle.block.proofs.CellChecks.{found-faulty, none-faulty}
@@ -20,96 +23,122 @@ use Rattle.block.proofs.CellChecks.{found-faulty, none-faulty}
 abbrev decided : Bool → Bool → ℕ → ℕ
 decided x y k = cond x 5 (cond y 6 k)
 
-pub head-stop : (m : ℕ) (b : List ℕ) (f : ℕ) → f ≡ headFault m b → f ≢ 0 → f ≡ readFault 2 m b
-unfolding readFault
-head-stop m b f e z = go (badLength 2 b) (badPlace 2 m b) e
-  where
-    go : (x y : Bool) → f ≡ decided x y 0 → f ≡ decided x y (cond (badCells (cellCount 2 b) (cellAt 2 (cellsPart b))) 7 0)
-    go true y h = h
-    go false true h = h
-    go false false h = absurd (z h)
+module _ (size m : ℕ) (b : List ℕ) where
+  abbrev faulty : Bool
+  faulty = badCells (cellCount size b) (cellAt size (cellsPart b))
 
-pub head-pass : (m : ℕ) (b : List ℕ) → headFault m b ≡ 0 → (t : Bool) → t ≡ badCells (cellCount 2 b) (cellAt 2 (cellsPart b)) → cond t 7 0 ≡ readFault 2 m b
-unfolding readFault
-head-pass m b = go (badLength 2 b) (badPlace 2 m b)
-  where
-    go : (x y : Bool) → decided x y 0 ≡ 0 → (t : Bool) → t ≡ badCells (cellCount 2 b) (cellAt 2 (cellsPart b)) → cond t 7 0 ≡ decided x y (cond (badCells (cellCount 2 b) (cellAt 2 (cellsPart b))) 7 0)
-    go true y h t e = let z : ⊥ = omega arith in absurd z
-    go false true h t e = let z : ⊥ = omega arith in absurd z
-    go false false h t e = ap (λ (x : Bool). cond x 7 0) e
+  pub head-stop : (f : ℕ) → f ≡ headFault size m b → f ≢ 0 → f ≡ readFault size m b
+  unfolding readFault
+  head-stop f e z = go (badLength size b) (badPlace size m b) e
+    where
+      go : (x y : Bool) → f ≡ decided x y 0 → f ≡ decided x y (cond faulty 7 0)
+      go true y h = h
+      go false true h = h
+      go false false h = absurd (z h)
 
--- the cells of the read at `at`, as the part of the block that starts at `start` and ends at `end`
-module _ (b : List ℕ) (at start end : ℕ) (lie : CellsLie b at start end) where
-  pub cells-are : take (end - start) (drop start b) ≡ cellsPart (drop at b)
+  head-pass : headFault size m b ≡ 0 → (t : Bool) → t ≡ faulty → cond t 7 0 ≡ readFault size m b
+  unfolding readFault
+  head-pass = go (badLength size b) (badPlace size m b)
+    where
+      go : (x y : Bool) → decided x y 0 ≡ 0 → (t : Bool) → t ≡ faulty → cond t 7 0 ≡ decided x y (cond faulty 7 0)
+      go true y h t e = let z : ⊥ = omega arith in absurd z
+      go false true h t e = let z : ⊥ = omega arith in absurd z
+      go false false h t e = ap (λ (x : Bool). cond x 7 0) e
+
+-- cell i of a part of n bytes lies inside it
+pub cell-below : (size n i : ℕ) → i < n / size → i < n
+cell-below size n i h = omega (arith, div-le-self n size)
+
+pub cell-inside : (size n i : ℕ) → size ≡ 2 → i < n / size → size * i + 1 < n
+cell-inside size n i two h = omega (arith, ap (λ (k : ℕ). k * i) two, ap (λ (k : ℕ). n / k) two)
+
+-- the cells of the read at `at`, as the part of the bytes that starts at `start` and ends at `end`
+module _ (size : ℕ) (some : 0 < size) (reads : List ℕ) (at start end : ℕ) (lie : CellsLie size reads at start end) where
+  abbrev part : List ℕ
+  part = take (end - start) (drop start reads)
+
+  cells-are : part ≡ cellsPart (drop at reads)
   cells-are =
-      let e : end - start ≡ lengthField (drop at b) - 2 = omega arith in
-      ap₂ (λ (n : ℕ) (l : List ℕ). take n l) e (ap (λ (k : ℕ). drop k b) (lie .starts) ∙ sym (drop-drop 4 at b))
+      let e : end - start ≡ lengthField (drop at reads) - 2 = omega arith in
+      ap₂ (λ (n : ℕ) (l : List ℕ). take n l) e (ap (λ (k : ℕ). drop k reads) (lie .starts) ∙ sym (drop-drop 4 at reads))
 
-  pub cells-filled : length (take (end - start) (drop start b)) ≡ 2 * cellCount 2 (drop at b)
-  cells-filled = length-take (end - start) (drop start b) ∙ omega (arith, length-drop start b)
+  cells-filled : length part ≡ size * cellCount size (drop at reads)
+  cells-filled = length-take (end - start) (drop start reads) ∙ omega (arith, length-drop start reads)
 
-  module _ (m : ℕ) (head : headFault m (drop at b) ≡ 0) where
-    count-is : length (take (end - start) (drop start b)) / 2 ≡ cellCount 2 (drop at b)
-    count-is = omega (arith, cells-filled)
+  count-is : length part / size ≡ cellCount size (drop at reads)
+  count-is = div-eq-of-eq-mul-right some cells-filled
 
-    by-cells : (t : Bool) → t ≡ badCells (length (take (end - start) (drop start b)) / 2) (cellAt 2 (take (end - start) (drop start b))) → cond t 7 0 ≡ readFault 2 m (drop at b)
-    by-cells t e = head-pass m (drop at b) head t (e ∙ ap₂ (λ (c : ℕ) (p : List ℕ). badCells c (cellAt 2 p)) count-is cells-are)
+  whole : length part ≡ size * (length part / size)
+  whole = cells-filled ∙ ap (λ (c : ℕ). size * c) (sym count-is)
 
-    even : length (take (end - start) (drop start b)) ≡ 2 * (length (take (end - start) (drop start b)) / 2)
-    even = omega (arith, cells-filled)
+  module _ (m : ℕ) (head : headFault size m (drop at reads) ≡ 0) where
+    by-cells : (t : Bool) → t ≡ badCells (length part / size) (cellAt size part) → cond t 7 0 ≡ readFault size m (drop at reads)
+    by-cells t e = head-pass size m (drop at reads) head t (e ∙ ap₂ (λ (c : ℕ) (p : List ℕ). badCells c (cellAt size p)) count-is cells-are)
 
-    pub faulty-read : (i : ℕ) → i < length (take (end - start) (drop start b)) / 2 → faultyCell (take (end - start) (drop start b)) i ≡ true → 7 ≡ readFault 2 m (drop at b)
-    faulty-read i l h = by-cells true (found-faulty (take (end - start) (drop start b)) _ even i l h)
+    pub faulty-read : (i : ℕ) → i < length part / size → faultyCell size part i ≡ true → 7 ≡ readFault size m (drop at reads)
+    faulty-read i l h = by-cells true (found-faulty size some part _ whole i l h)
 
-    pub sound-read : (i : ℕ) → i ≤ length (take (end - start) (drop start b)) / 2 → length (take (end - start) (drop start b)) / 2 ≤ i → anyTo i (faultyCell (take (end - start) (drop start b))) ≡ false → 0 ≡ readFault 2 m (drop at b)
+    pub sound-read : (i : ℕ) → i ≤ length part / size → length part / size ≤ i → anyTo i (faultyCell size part) ≡ false
+        → 0 ≡ readFault size m (drop at reads)
     sound-read i l g h =
-        let e : length (take (end - start) (drop start b)) / 2 ≡ i = omega arith in
-        by-cells false (none-faulty (take (end - start) (drop start b)) _ even (ap (λ (k : ℕ). anyTo k (faultyCell (take (end - start) (drop start b)))) e ∙ h))
+        let e : length part / size ≡ i = omega arith in
+        by-cells false (none-faulty size some part _ whole (ap (λ (k : ℕ). anyTo k (faultyCell size part)) e ∙ h))
+
+-- 5, 6 or 7 of the read that b starts with, and of the n reads from read r on
+abbrev faultOf : Shape → List ℕ → ℕ
+faultOf s b = readFault (s .size) (s .m) b
+
+abbrev faultFrom : Shape → ℕ → ℕ → List ℕ → Numbers
+faultFrom s n r b = readsFault (s .size) (s .m) n r b
 
 -- the first r reads passed, and read r starts at `at`: what is left gives what all give
-pub record Left (b : List ℕ) (m n at r : ℕ) : Type 0 where
-  pub fault : readsFault 2 m n 0 (readsPart b) ≡ readsFault 2 m (n - r) r (drop at b)
-  pub after : afterReads n (readsPart b) ≡ afterReads (n - r) (drop at b)
+pub record Left (s : Shape) (reads : List ℕ) (at r : ℕ) : Type 0 where
+  pub fault : faultFrom s (s .n) 0 reads ≡ faultFrom s (s .n - r) r (drop at reads)
+  pub after : afterReads (s .n) reads ≡ afterReads (s .n - r) (drop at reads)
 
-pub left-all : (b : List ℕ) (m n : ℕ) → Left b m n 9 0
-left-all b m n =
-    let e : n ≡ n - 0 = omega arith in
-    record { fault = ap (λ (k : ℕ). readsFault 2 m k 0 (drop 9 b)) e; after = ap (λ (k : ℕ). afterReads k (drop 9 b)) e }
+pub left-all : (s : Shape) (reads : List ℕ) → Left s reads 0 0
+left-all s reads =
+    let e : s .n ≡ s .n - 0 = omega arith in
+    record { fault = ap (λ (k : ℕ). faultFrom s k 0 reads) e; after = ap (λ (k : ℕ). afterReads k reads) e }
 
-module _ (b : List ℕ) (m n at r : ℕ) (left : Left b m n at r) where
-  more : r < n → n - r ≡ suc (n - (r + 1))
+module _ (s : Shape) (reads : List ℕ) (at r : ℕ) (left : Left s reads at r) where
+  abbrev here : List ℕ
+  here = drop at reads
+
+  -- the answer by whether the read at `at` passes
+  abbrev answer : Bool → Numbers
+  answer passes = cond passes (faultFrom s (s .n - (r + 1)) (suc r) (afterRead here)) (record { number = faultOf s here; second = r })
+
+  more : r < s .n → s .n - r ≡ suc (s .n - (r + 1))
   more h = omega arith
 
-  pub left-stop : (f : ℕ) → r < n → f ≡ readFault 2 m (drop at b) → f ≢ 0 → record { number = f; second = r } ≡ readsFault 2 m n 0 (readsPart b)
+  by-read : r < s .n → (passes : Bool) → eqb (faultOf s here) 0 ≡ passes → faultFrom s (s .n) 0 reads ≡ answer passes
   unfolding readsFault
-  left-stop f h e z =
-      let x : List ℕ = drop at b in
-      sym (left .fault
-      ∙ ap (λ (k : ℕ). readsFault 2 m k r x) (more h)
-      ∙ ap (λ (t : Bool). cond t (readsFault 2 m (n - (r + 1)) (suc r) (afterRead x)) (record { number = readFault 2 m x; second = r })) (ne-eqb (readFault 2 m x) 0 (λ q. z (e ∙ q)))
-      ∙ ap (λ (i : ℕ). record { number = i; second = r }) (sym e))
+  by-read h passes e = left .fault ∙ ap (λ (k : ℕ). faultFrom s k r here) (more h) ∙ ap answer e
 
-  pub left-on : (end : ℕ) → r < n → 0 ≡ readFault 2 m (drop at b) → end ≡ at + (2 + lengthField (drop at b)) → Left b m n end (r + 1)
-  unfolding readsFault afterReads
+  pub left-stop : (f : ℕ) → r < s .n → f ≡ faultOf s here → f ≢ 0 → record { number = f; second = r } ≡ faultFrom s (s .n) 0 reads
+  left-stop f h e z = ap (λ (k : ℕ). record { number = k; second = r }) e ∙ sym (by-read h false (ne-eqb _ 0 (λ q. z (e ∙ q))))
+
+  pub left-on : (end : ℕ) → r < s .n → 0 ≡ faultOf s here → end ≡ at + (2 + lengthField here) → Left s reads end (r + 1)
+  unfolding afterReads
   left-on end h e q =
-      let x : List ℕ = drop at b in
-      let d : afterRead x ≡ drop end b = drop-drop (2 + lengthField x) at b ∙ ap (λ (k : ℕ). drop k b) (sym q) in
+      let n : ℕ = s .n - (r + 1) in
+      let d : afterRead here ≡ drop end reads = drop-drop (2 + lengthField here) at reads ∙ ap (λ (k : ℕ). drop k reads) (sym q) in
       record {
-        fault =
-            left .fault
-            ∙ ap (λ (k : ℕ). readsFault 2 m k r x) (more h)
-            ∙ ap (λ (t : Bool). cond t (readsFault 2 m (n - (r + 1)) (suc r) (afterRead x)) (record { number = readFault 2 m x; second = r })) (eq-eqb (readFault 2 m x) 0 (sym e))
-            ∙ ap₂ (λ (i : ℕ) (y : List ℕ). readsFault 2 m (n - (r + 1)) i y) (sym (add-one r)) d;
-        after = left .after ∙ ap (λ (k : ℕ). afterReads k x) (more h) ∙ ap (afterReads (n - (r + 1))) d;
+        fault = by-read h true (eq-eqb _ 0 (sym e)) ∙ ap₂ (λ (i : ℕ) (b : List ℕ). faultFrom s n i b) (sym (add-one r)) d;
+        after = left .after ∙ ap (λ (k : ℕ). afterReads k here) (more h) ∙ ap (afterReads n) d;
       }
 
-  pub left-none : n ≤ r → passed ≡ readsFault 2 m n 0 (readsPart b)
-  unfolding readsFault
-  left-none h = let e : n - r ≡ 0 = omega arith in sym (left .fault ∙ ap (λ (k : ℕ). readsFault 2 m k r (drop at b)) e)
+  module _ (all : s .n ≤ r) where
+    none : s .n - r ≡ 0
+    none = omega arith
 
-  pub left-end : n ≤ r → at ≤ length b → at + length (afterReads n (readsPart b)) ≡ length b
-  unfolding afterReads
-  left-end h i =
-      let e : n - r ≡ 0 = omega arith in
-      let d : length (afterReads n (readsPart b)) ≡ length (drop at b) = ap length (left .after ∙ ap (λ (k : ℕ). afterReads k (drop at b)) e) in
-      omega (arith, length-drop at b)
+    pub left-none : passed ≡ faultFrom s (s .n) 0 reads
+    unfolding readsFault
+    left-none = sym (left .fault ∙ ap (λ (k : ℕ). faultFrom s k r here) none)
+
+    pub left-end : at ≤ length reads → at + length (afterReads (s .n) reads) ≡ length reads
+    unfolding afterReads
+    left-end h =
+        let d : length (afterReads (s .n) reads) ≡ length here = ap length (left .after ∙ ap (λ (k : ℕ). afterReads k here) none) in
+        omega (arith, length-drop at reads)

@@ -7,6 +7,6 @@ use lib.Dec.{eqb}
 use Rattle.meaning.specs.Block.{cellAt}
 use Rattle.meaning.specs.Refusals.{badCell, isHole}
 
--- cell i of a read's cells: a letter above 2, a hole with weight, or a hole that is the first or the last cell
-unfoldable pub faultyCell : List ℕ → ℕ → Bool
-faultyCell part i = badCell (cellAt 2 part i) || (isHole (cellAt 2 part i) && (eqb i 0 || eqb (2 * i + 2) (length part)))
+-- cell i of a read's cells, `size` bytes each: a letter above 2, a hole with weight, or a hole that is the first or the last cell
+unfoldable pub faultyCell : ℕ → List ℕ → ℕ → Bool
+faultyCell size part i = badCell (cellAt size part i) || (isHole (cellAt size part i) && (eqb i 0 || eqb (size * i + size) (length part)))

@@ -3,19 +3,20 @@ ghost use mathlib.Core.Path.{_≡_};
 ghost use Prim.Native.Nat.{_+_, _*_, _≤_, _<_};
 ghost use lib.ListN.{length, drop};
 ghost use Rattle.meaning.specs.Numbers.{word, long};
-ghost use Rattle.meaning.specs.Block.{readsField};
 ghost use Rattle.meaning.specs.Refusals.{passed, headerRefusal, readsFault, blockRefusal};
-ghost use Rattle.block.specs.Answers.{headerNumber, headerSizes, headNumber, headFault, HeadPlace, searchNumbers, SearchEnd, Sized, checkedNumbers, checkedSizes};
+ghost use Rattle.layout.specs.Reads.{Lawful};
+ghost use Rattle.layout.specs.Places.{Noted};
+ghost use Rattle.block.specs.Answers.{headerNumber, headerSizes, Sized, headNumber, headFault, HeadPlace};
+ghost use Rattle.block.specs.Answers.{searchNumbers, SearchEnd, checkedNumbers, checkedSizes};
 ghost use Rattle.block.specs.Cells.{faultyCell};
-ghost use Rattle.block.specs.Places.{Noted};
 
-// What a header says: which of the checks 1 to 4 applies, or its m and n.
+// What a header says: which of the checks 1 to 4 applies, or the shape of its reads.
 pub enum Header {
     Short,
     Version,
     Size,
     Counts,
-    Sizes { m: usize, n: usize },
+    Sizes(layout::Shape),
 }
 
 // What stands before a read's cells: 5, 6, or where its cells start and end.
@@ -33,16 +34,10 @@ pub enum Search {
     End(usize),
 }
 
-// The checks 1 to 8 of a block: the two numbers of a refusal, or its m and n.
+// The checks 1 to 8 of a block: the two numbers of a refusal, or the shape of its reads.
 pub enum Verdict {
     Refused { number: u32, second: u32 },
-    Passed { m: usize, n: usize },
-}
-
-fn wide(b: u8) -> usize
-    ensures { λ r. ⌜ (r ≡ b) × (r < 256) ⌝ }
-{
-    b as usize
+    Passed(layout::Shape),
 }
 
 // The big-endian number of the two bytes from `at` on.
@@ -50,7 +45,7 @@ pub fn word_at(b: &[u8], at: usize) -> usize
     requires { ⌜ at + 2 ≤ length (now b) ⌝ }
     ensures { λ r. ⌜ (r ≡ word (now (b .entry)) at) × (r < 65536) ⌝ }
 {
-    wide(b[at]) * 256 + wide(b[at + 1])
+    plain::wide(b[at]) * 256 + plain::wide(b[at + 1])
 }
 
 // The big-endian number of the four bytes from `at` on.
@@ -86,15 +81,19 @@ fn check_header(block: &[u8]) -> Header
     if n > 1024 {
         return Header::Counts;
     }
-    Header::Sizes { m: m, n: n }
+    Header::Sizes(layout::Shape {
+        size: 2,
+        m: m,
+        n: n,
+    })
 }
 
 // Whether cell i of a read's cells is faulty: a letter above 2, a hole with weight, or a hole that is the first or the last cell.
-fn cell_bad(cells: &[u8], i: usize) -> bool
-    requires { ⌜ 2 * i + 1 < length (now cells) ⌝ }
-    ensures { λ r. ⌜ r ≡ faultyCell (now (cells .entry)) i ⌝ }
+fn cell_bad(cells: &[u8], size: usize, i: usize) -> bool
+    requires { ⌜ (size ≡ 2) × (size * i + 1 < length (now cells)) ⌝ }
+    ensures { λ r. ⌜ r ≡ faultyCell size (now (cells .entry)) i ⌝ }
 {
-    let at = 2 * i;
+    let at = size * i;
     let letter = cells[at];
     if letter < 2 {
         return false;
@@ -108,35 +107,37 @@ fn cell_bad(cells: &[u8], i: usize) -> bool
     if i == 0 {
         return true;
     }
-    at + 2 == cells.len()
+    at + size == cells.len()
 }
 
 // The read at `at`: the checks 5 and 6.
-fn read_head(block: &[u8], at: usize, m: usize) -> Head
-    requires { ⌜ (at ≤ length (now block)) × (m ≤ 1024) ⌝ }
-    ensures { λ r. ⌜ headNumber r ≡ headFault m (drop at (now (block .entry))) ⌝ }
-    ensures { λ r. ⌜ HeadPlace (now (block .entry)) at r ⌝ }
+fn read_head(shape: layout::Shape, reads: &[u8], at: usize) -> Head
+    requires { ⌜ (at ≤ length (now reads)) × ((0 < shape .size) × (shape .m ≤ 1024)) ⌝ }
+    ensures { λ r. ⌜ headNumber r ≡ headFault (shape .size) (shape .m) (drop at (now (reads .entry))) ⌝ }
+    ensures { λ r. ⌜ HeadPlace (shape .size) (now (reads .entry)) at r ⌝ }
 {
-    if block.len() - at < 2 {
+    let size = shape.size;
+    if reads.len() - at < 2 {
         return Head::Length;
     }
-    let len = word_at(block, at);
+    let len = word_at(reads, at);
     if len < 2 {
         return Head::Length;
     }
-    if len % 2 == 1 {
+    if (len - 2) % size != 0 {
         return Head::Length;
     }
-    if block.len() - at < len + 2 {
+    if reads.len() - at < len + 2 {
         return Head::Length;
     }
-    let first = word_at(block, at + 2);
-    if len == 2 {
+    let first = word_at(reads, at + 2);
+    let count = (len - 2) / size;
+    if count == 0 {
         if first != 0 {
             return Head::Place;
         }
     }
-    if first + (len - 2) / 2 > m {
+    if first + count > shape.m {
         return Head::Place;
     }
     Head::Cells {
@@ -145,19 +146,20 @@ fn read_head(block: &[u8], at: usize, m: usize) -> Head
     }
 }
 
-// The checks 5, 6 and 7 of the n reads behind the header: the search stops at the first faulty cell of the first faulty read.
-fn first_fault(block: &[u8], m: usize, n: usize) -> Search
-    requires { ⌜ (9 ≤ length (now block)) × ((m ≤ 1024) × (n ≤ 1024)) ⌝ }
-    ensures { λ r. ⌜ searchNumbers r ≡ readsFault 2 m n 0 (drop 9 (now (block .entry))) ⌝ }
-    ensures { λ r. ⌜ SearchEnd (now (block .entry)) n r ⌝ }
+// The checks 5, 6 and 7 of the n reads: the search stops at the first faulty cell of the first faulty read.
+fn first_fault(shape: layout::Shape, reads: &[u8]) -> Search
+    requires { ⌜ (shape .size ≡ 2) × ((shape .m ≤ 1024) × (shape .n ≤ 1024)) ⌝ }
+    ensures { λ r. ⌜ searchNumbers r ≡ readsFault (shape .size) (shape .m) (shape .n) 0 (now (reads .entry)) ⌝ }
+    ensures { λ r. ⌜ SearchEnd (now (reads .entry)) (shape .n) r ⌝ }
 {
-    let mut at: usize = 9;
+    let size = shape.size;
+    let mut at: usize = 0;
     let mut r: usize = 0;
     'reads: loop {
-        if r >= n {
+        if r >= shape.n {
             break 'reads Search::End(at);
         }
-        let h = read_head(block, at, m);
+        let h = read_head(shape, reads, at);
         match h {
             Head::Length => {
                 break 'reads Search::Length(r);
@@ -166,11 +168,11 @@ fn first_fault(block: &[u8], m: usize, n: usize) -> Search
                 break 'reads Search::Place(r);
             }
             Head::Cells { start, end } => {
-                let cells = &block[start..end];
-                let c = cells.len() / 2;
+                let cells = &reads[start..end];
+                let count = cells.len() / size;
                 let mut i: usize = 0;
-                while i < c {
-                    if cell_bad(cells, i) {
+                while i < count {
+                    if cell_bad(cells, size, i) {
                         break 'reads Search::Cell(r);
                     }
                     i += 1;
@@ -183,12 +185,13 @@ fn first_fault(block: &[u8], m: usize, n: usize) -> Search
 }
 
 // The checks 5 to 8, of a block whose header passes.
-fn check_reads(block: &[u8], m: usize, n: usize) -> Verdict
-    requires { ⌜ (headerRefusal 1 (now block) ≡ passed) × Sized (now block) m n ⌝ }
+fn check_reads(block: &[u8], shape: layout::Shape) -> Verdict
+    requires { ⌜ (headerRefusal 1 (now block) ≡ passed) × Sized (now block) shape ⌝ }
     ensures { λ r. ⌜ checkedNumbers r ≡ blockRefusal 1 (now (block .entry)) ⌝ }
     ensures { λ r. ⌜ checkedSizes (now (block .entry)) r ⌝ }
 {
-    match first_fault(block, m, n) {
+    let reads = &block[9..];
+    match first_fault(shape, reads) {
         Search::Length(r) => Verdict::Refused {
             number: 5,
             second: r as u32,
@@ -202,13 +205,13 @@ fn check_reads(block: &[u8], m: usize, n: usize) -> Verdict
             second: r as u32,
         },
         Search::End(at) => {
-            if at < block.len() {
+            if at < reads.len() {
                 return Verdict::Refused {
                     number: 8,
                     second: 0,
                 };
             }
-            Verdict::Passed { m: m, n: n }
+            Verdict::Passed(shape)
         }
     }
 }
@@ -235,24 +238,25 @@ pub fn checked(block: &[u8]) -> Verdict
             number: 4,
             second: 0,
         },
-        Header::Sizes { m, n } => check_reads(block, m, n),
+        Header::Sizes(shape) => check_reads(block, shape),
     }
 }
 
-// Where each read's cells start in the block, its first column, and the column after its last.
-pub fn places(block: &[u8], n: usize, start: &mut [u32], first: &mut [u16], end: &mut [u16])
-    requires { ⌜ (blockRefusal 1 (now block) .number ≡ 0) × (n ≡ readsField (now block)) ⌝ }
-    requires { ⌜ (n ≤ length (now start)) × ((n ≤ length (now first)) × (n ≤ length (now end))) ⌝ }
-    ensures { λ _. ⌜ Noted (now (block .entry)) (now (start .exit)) (now (first .exit)) (now (end .exit)) ⌝ }
+// Where each read's cells start, its first column, and the column after its last.
+pub fn places(shape: layout::Shape, reads: &[u8], places: &mut [u32])
+    requires { ⌜ Lawful shape (now reads) × (3 * shape .n ≤ length (now places)) ⌝ }
+    ensures { λ _. ⌜ Noted shape (now (reads .entry)) (now (places .exit)) ⌝ }
 {
-    let mut at: usize = 9;
+    let size = shape.size;
+    let mut at: usize = 0;
     let mut r: usize = 0;
-    while r < n {
-        let len = word_at(block, at);
-        let from = word_at(block, at + 2);
-        start[r] = (at + 4) as u32;
-        first[r] = from as u16;
-        end[r] = (from + (len - 2) / 2) as u16;
+    while r < shape.n {
+        let len = word_at(reads, at);
+        let first = word_at(reads, at + 2);
+        let k = 3 * r;
+        places[k] = (at + 4) as u32;
+        places[k + 1] = first as u32;
+        places[k + 2] = (first + (len - 2) / size) as u32;
         at = at + 2 + len;
         r += 1;
     }

@@ -4,19 +4,16 @@ use mathlib.Core.Bool.{true}
 use mathlib.Core.List.{List}
 use mathlib.Core.Path.{_≡_}
 use lib.ListN.{length, getD}
-use Rattle.meaning.specs.Block.{readsField, matrixOf}
 use Rattle.meaning.specs.Active.{read, active}
-use Rattle.meaning.specs.Refusals.{blockRefusal}
-use Rattle.block.specs.Places.{Noted}
+use Rattle.layout.specs.declared.Shape.{Shape}
+use Rattle.layout.specs.Reads.{matrixIn, Lawful}
+use Rattle.layout.specs.Places.{Noted}
 
--- a block that passes the checks 1 to 8, where its reads lie, and a list whose first p reads are active at column j
-pub record Laid (b start first after list : List ℕ) (p j : ℕ) : Type 0 where
-  pub block-good : blockRefusal 1 b .number ≡ 0
-  pub noted : Noted b start first after
-  pub starts-room : readsField b ≤ length start
-  pub firsts-room : readsField b ≤ length first
-  pub ends-room : readsField b ≤ length after
+-- lawful reads, where they lie, and a list whose first p reads are active at column j
+pub record Laid (s : Shape) (reads places list : List ℕ) (p j : ℕ) : Type 0 where
+  pub lawful : Lawful s reads
+  pub noted : Noted s reads places
   pub few : p ≤ 12
   pub listed : p ≤ length list
-  pub each-read : (i : ℕ) → i < p → getD list i 0 < readsField b
-  pub each-active : (i : ℕ) → i < p → active (read (matrixOf b) (getD list i 0)) j ≡ true
+  pub each-read : (i : ℕ) → i < p → getD list i 0 < s .n
+  pub each-active : (i : ℕ) → i < p → active (read (matrixIn s reads) (getD list i 0)) j ≡ true

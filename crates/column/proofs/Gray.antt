@@ -1,10 +1,10 @@
 -- Gray code order, for any number of digits: each step turns one digit, and every index is visited once.
-use Prim.Native.Nat.{ℕ, zero, suc, _+_, _-_, _*_, _/_, _%_, _^_, _<_}
+use Prim.Native.Nat.{ℕ, zero, suc, _+_, _*_, _/_, _%_, _^_, _<_}
 use lib.Bits.{bitXor, differ, xor-zero-r, xor-lt}
 use lib.Count.{trailingZeros, under}
 use mathlib.Core.Path.{_≡_, refl, sym, ap, ap₂, _∙_}
 use native.Mathlib.Omega.{arith}
-use Rattle.fold.proofs.Steps.{by-digits, odd-lt, differ-lt, differ-twice, xor-half, xor-odd, xor-back}
+use Rattle.fold.proofs.Steps.{by-digits, odd-lt, differ-lt, differ-twice, xor-half, xor-odd}
 use Rattle.column.specs.Walk.{gray}
 
 -- an index by its half and its last digit
@@ -71,25 +71,22 @@ gray-step (suc f) n l = go (n % 2) refl (gray-step f (n / 2))
         (odd-step n (2 ^ trailingZeros f (n / 2 + 1)) (omega arith) (ih (omega arith))
         ∙ ap (bitXor (gray n)) (let z : 2 * 2 ^ trailingZeros f (n / 2 + 1) ≡ 2 ^ suc (trailingZeros f (n / 2 + 1)) = omega arith in z))
 
--- every fourth index is even
-pub gray-fourth : (n : ℕ) → n % 4 ≡ 0 → gray n % 2 ≡ 0
-gray-fourth n e =
-    let half : n / 2 ≡ 2 * (n / 4) = omega arith in
-    let even : 2 * (n / 4) % 2 ≡ 0 = omega arith in
-    gray-last n ∙ ap₂ differ (let z : n % 2 ≡ 0 = omega arith in z) (ap (λ (m : ℕ). m % 2) half ∙ even)
+-- every fourth index is even, and the second one after it is odd
+pub gray-even : (n : ℕ) → n % 4 ≡ 0 → gray n % 2 ≡ 0
+gray-even n e = gray-last n ∙ ap₂ differ (let z : n % 2 ≡ 0 = omega arith in z) (let z : n / 2 % 2 ≡ 0 = omega arith in z)
 
--- the three steps after every fourth
-pub gray-one : (n : ℕ) → n % 4 ≡ 0 → gray (n + 1) ≡ bitXor (gray n) 1
-gray-one n e = even-step n (omega arith)
+pub gray-odd : (n : ℕ) → n % 4 ≡ 2 → gray n % 2 ≡ 1
+gray-odd n e = gray-last n ∙ ap₂ differ (let z : n % 2 ≡ 0 = omega arith in z) (let z : n / 2 % 2 ≡ 1 = omega arith in z)
 
-pub gray-two : (n : ℕ) → n % 4 ≡ 0 → gray (n + 1 + 1) ≡ bitXor (bitXor (gray n) 1) 2
-gray-two n e =
-    let half : (n + 1) / 2 ≡ 2 * (n / 4) = omega arith in
-    let even : 2 * (n / 4) % 2 ≡ 0 = omega arith in
-    odd-step (n + 1) 1 (omega arith) (even-step ((n + 1) / 2) (ap (λ (m : ℕ). m % 2) half ∙ even)) ∙ ap (λ (g : ℕ). bitXor g 2) (gray-one n e)
+-- the lowest digit 1 of an odd number, and of twice an odd number
+pub lowest-odd : (f n : ℕ) → n % 2 ≡ 1 → trailingZeros (suc f) n ≡ 0
+unfolding trailingZeros
+lowest-odd f n e = ap (λ (d : ℕ). under d (trailingZeros f (n / 2))) e
 
-pub gray-three : (n : ℕ) → n % 4 ≡ 0 → gray (n + 1 + 1 + 1) ≡ bitXor (gray n) 2
-gray-three n e = even-step (n + 1 + 1) (omega arith) ∙ ap (λ (g : ℕ). bitXor g 1) (gray-two n e) ∙ xor-back (gray n) 1 2
+pub lowest-two : (f n : ℕ) → n % 4 ≡ 2 → trailingZeros (suc (suc f)) n ≡ 1
+unfolding trailingZeros
+lowest-two f n e =
+    ap₂ under (let z : n % 2 ≡ 0 = omega arith in z) (lowest-odd f (n / 2) (omega arith))
 
 -- where the lowest digit 1 of a number can stand
 pub lowest-lt : (f b n : ℕ) → 0 < n → n < 2 ^ b → trailingZeros f n < b

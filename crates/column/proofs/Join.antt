@@ -1,5 +1,5 @@
 -- The pairs of a column's active reads give the meaning's four sums.
-use Prim.Native.Nat.{ℕ, zero, suc, _+_, _-_, _<_}
+use Prim.Native.Nat.{ℕ, zero, suc, _+_, _<_}
 use lib.ListN.{length, getD}
 use mathlib.Core.Bool.{cond, Bool·beq}
 use mathlib.Core.List.{List, [], _∷_}
@@ -18,7 +18,7 @@ use Rattle.meaning.proofs.Totals.{sum-ext}
 use Rattle.meaning.proofs.Lists.{Distinct, sumOver}
 use Rattle.meaning.proofs.Closing.{Placed, distinct-active, sums-active}
 use Rattle.meaning.proofs.Index.{spread-digit, spread-out}
-use Rattle.column.specs.Sums.{weightOf, sumsWith}
+use Rattle.sums.specs.Sums.{weightOf, sumsWith}
 use Rattle.column.proofs.Moves.{sums-with-ext}
 
 sum-head : (n : ℕ) (f : ℕ → ℕ) → sumTo (suc n) f ≡ f 0 + sumTo n (λ i. f (suc i))

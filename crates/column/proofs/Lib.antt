@@ -2,4 +2,4 @@ pub mod Moves
 pub mod Join
 pub mod Laws
 pub mod Gray
-pub mod Walk
+pub mod Steps

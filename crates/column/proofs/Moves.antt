@@ -8,9 +8,9 @@ use mathlib.Core.Path.{_≡_, refl, sym, ap, _∙_, fun-ext}
 use native.Mathlib.Nat.{le-trans, le-of-eq, mul-le-mul-right}
 use native.Mathlib.Omega.{arith}
 use Rattle.meaning.specs.Division.{Side, put}
-use Rattle.meaning.specs.Charge.{Letter, Sums, charge}
+use Rattle.meaning.specs.Charge.{Letter, Sums, chargeOf}
 use Rattle.meaning.proofs.Totals.{sum-ext, sum-add, sum-bound, sum-change}
-use Rattle.column.specs.Sums.{sumsOf, arrayOf, Small, weightOf, LightPairs, sumsWith, movedSums, Movable}
+use Rattle.sums.specs.Sums.{sumsOf, arrayOf, Small, weightOf, LightPairs, sumsWith, movedSums, Movable}
 
 -- an array of four sums has them
 pub sums-of-array : (x : Sums) → sumsOf (arrayOf x) ≡ x
@@ -92,8 +92,8 @@ module _ (w : List (List ℕ)) (p : ℕ) where
     sum-with-bound false l = let h = two-with-bound l l in omega arith
     sum-with-bound true l = let h = two-with-bound l l in omega arith
 
-    pub charge-with-bound : charge (sumsWith w p side) ≤ p * lim
-    unfolding charge
+    pub charge-with-bound : chargeOf (sumsWith w p side) ≤ p * lim
+    unfolding chargeOf
     charge-with-bound = let h = two-with-bound false false in omega arith
 
   -- what a column's pass asks of its sums: that they are small, and that any of its reads can move
@@ -104,7 +104,7 @@ module _ (w : List (List ℕ)) (p : ℕ) where
     pub sums-small : Small (sumsWith w p side)
     sums-small s l = le-trans (sum-small s l) (omega arith)
 
-    pub charge-small : charge (sumsWith w p side) ≤ 786420
+    pub charge-small : chargeOf (sumsWith w p side) ≤ 786420
     charge-small = le-trans (charge-with-bound 65535 light side) (mul-le-mul-right 65535 few)
 
     pub sums-movable : (i : ℕ) (from : Side) → i < p → side i ≡ from → Movable (sumsWith w p side) (weightOf w i) from

@@ -1,15 +1,14 @@
 -- One column's pass: what it takes over from the column before, and what it writes.
-use Prim.Native.Nat.{ℕ, zero, suc, _+_, _^_, _≤_, _<_}
+use Prim.Native.Nat.{ℕ, _+_, _^_, _≤_, _<_}
 use mathlib.Core.Bool.{cond}
 use mathlib.Core.List.{List}
 use lib.ListN.{length, getD}
 use lib.Dec.{ltb}
-use lib.Bits.{bitXor}
 use Rattle.fold.specs.Turn.{foldTo, sideAt}
 use Rattle.meaning.specs.Numbers.{run}
 use Rattle.meaning.specs.Active.{used}
-use Rattle.meaning.specs.Charge.{charge}
-use Rattle.column.specs.Sums.{sumsWith}
+use Rattle.meaning.specs.Charge.{chargeOf}
+use Rattle.sums.specs.Sums.{sumsWith}
 
 -- a folded index of so many digits has its entry in what is taken over, and no such entry is too large to add a charge to
 pub record Room (turn : List ℕ) (p : ℕ) (taken : List ℕ) : Type 0 where
@@ -20,7 +19,7 @@ pub record Room (turn : List ℕ) (p : ℕ) (taken : List ℕ) : Type 0 where
 
 -- entry k of a column with p reads: the charge of what it stands for, and what that takes over
 unfoldable pub entryAt : List (List ℕ) → List ℕ → List ℕ → ℕ → ℕ → ℕ
-entryAt w turn taken p k = charge (sumsWith w p (sideAt k)) + getD taken (foldTo turn k p) 0
+entryAt w turn taken p k = chargeOf (sumsWith w p (sideAt k)) + getD taken (foldTo turn k p) 0
 
 -- all entries of the part, zeros behind those that stand for a division
 unfoldable pub passed : List (List ℕ) → List ℕ → List ℕ → ℕ → ℕ → List ℕ

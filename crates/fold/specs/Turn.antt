@@ -20,8 +20,8 @@ foldTo turn k zero = 0
 foldTo turn k (suc i) = cond (sideAt k i) (bitXor (foldTo turn k i) (getD turn i 0)) (foldTo turn k i)
 
 -- whether the i-th read of the list starts before column j: of the reads active at column j these are the shared ones
-abbrev pub startsBefore : List ℕ → List ℕ → ℕ → ℕ → Bool
-startsBefore first list j i = ltb (getD first (getD list i 0) 0) j
+abbrev pub startsBefore : (ℕ → ℕ) → List ℕ → ℕ → ℕ → Bool
+startsBefore first list j i = ltb (first (getD list i 0)) j
 
 -- how many of the first i reads are shared
 abbrev pub sharedTo : (ℕ → Bool) → ℕ → ℕ

@@ -1,35 +1,10 @@
 // An index folded onto the shared reads: what the masks are made of by which each read turns it.
 ghost use mathlib.Core.Path.{_≡_};
 ghost use mathlib.Core.Bool.{cond};
-ghost use Prim.Native.Nat.{_*_, _^_, _≤_, _<_};
-ghost use lib.ListN.{length, getD};
+ghost use Prim.Native.Nat.{_*_, _≤_, _<_};
 ghost use lib.Dec.{ltb, eqb};
 ghost use Rattle.meaning.specs.Numbers.{bit};
 ghost use Rattle.fold.specs.Turn.{digitOf};
-
-// A read number or a column, to index with.
-pub fn wide(x: u16) -> usize
-    ensures { λ r. ⌜ r ≡ x ⌝ }
-{
-    x as usize
-}
-
-// What is noted, by read number, for the i-th read of the list.
-pub fn of_read(noted: &[u16], list: &[u16], i: usize) -> usize
-    requires { ⌜ (i < length (now list)) × (getD (now list) i 0 < length (now noted)) ⌝ }
-    ensures { λ r. ⌜ r ≡ getD (now (noted .entry)) (getD (now (list .entry)) i 0) 0 ⌝ }
-{
-    let r = wide(list[i]);
-    wide(noted[r])
-}
-
-// 2 to the power i.
-pub fn power(i: usize) -> usize
-    requires { ⌜ i < 12 ⌝ }
-    ensures { λ r. ⌜ r ≡ 2 ^ i ⌝ }
-{
-    1 << i
-}
 
 // 1 if a read that starts at column f and is active at column j is shared with the column before it.
 pub fn begun(f: usize, j: usize) -> usize
@@ -46,7 +21,7 @@ pub fn own(seen: usize, b: usize) -> usize
     if seen == 0 {
         return 0;
     }
-    power(seen - 1) * b
+    plain::power(seen - 1) * b
 }
 
 // The first shared read's place, where none has been seen before place i.

@@ -43,7 +43,8 @@ module _ (from : ℕ) where
 
   pub within-wider : (c to j : ℕ) → c ≤ to → within from c j ≡ true → within from to j ≡ true
   within-wider c to j h w =
-      within-in to j (leb-true from j (and-left (leb from j) (ltb j c) w)) (omega (arith, ltb-true j c (and-right (leb from j) (ltb j c) w)))
+      within-in to j (leb-true from j (and-left (leb from j) (ltb j c) w))
+      (omega (arith, ltb-true j c (and-right (leb from j) (ltb j c) w)))
 
   pub within-all : (to c j : ℕ) → Passes from to c → to ≤ c → within from c j ≡ within from to j
   within-all to c j p h = go (leb from to) refl

@@ -11,7 +11,7 @@ use lib.Seq.{getD-take, length-take-le, drop-at, take-take}
 use lib.Dec.{eqb}
 use borrow.Author.Tests.{eq-eqb, ne-eqb}
 use Rattle.meaning.specs.Numbers.{bit, sumTo, has}
-use Rattle.meaning.specs.Block.{Matrix, columnsField, matrixOf}
+use Rattle.meaning.specs.Block.{Matrix}
 use Rattle.meaning.specs.Active.{count, read, active, end, used, entries}
 use Rattle.meaning.specs.Closing.{activeReads, closingAt}
 use Rattle.meaning.specs.Division.{Division, firstOver}
@@ -23,8 +23,13 @@ use Rattle.meaning.proofs.Least.{first-ext}
 use Rattle.meaning.proofs.Closing.{active-split, active-cells, active-is, active-lt, ends-at, distinct-active}
 use Rattle.meaning.proofs.Index.{index-used}
 use Rattle.column.proofs.Join.{sum-places}
-use Rattle.table.specs.Ready.{Ready}
-use Rattle.table.proofs.Sizes.{columns-are, reads-are, column-sizes}
+use Rattle.layout.specs.declared.Shape.{Shape}
+use Rattle.layout.specs.Reads.{matrixIn}
+use Rattle.layout.specs.Places.{endAt}
+use Rattle.layout.specs.Lists.{countAt}
+use Rattle.layout.specs.Ready.{Ready}
+use Rattle.layout.proofs.Laws.{count-is}
+use Rattle.table.proofs.Sizes.{column-sizes}
 use Rattle.table.proofs.Columns.{listPart, part-listed, list-fits, height-is}
 
 sum-append : (xs ys : List ℕ) (f : ℕ → ℕ) → sumOver (xs ++ ys) f ≡ sumOver xs f + sumOver ys f
@@ -73,89 +78,86 @@ next-closes M j l =
     subst (λ (x : List ℕ). (i : ℕ) → suc i < length x → end (read M (getD x i 0)) ≡ suc j → end (read M (getD x (suc i) 0)) ≡ suc j) (sym (active-split M j l))
     (next-has (sharedReads M j) (closingAt M j) (λ q. end (read M q)) (suc j) (shared-goes M j) (ends-at M j))
 
-module _ (b start first after counts lists : List ℕ) (ready : Ready b start first after counts lists) where
-  abbrev reads : ℕ → List ℕ
-  reads j = activeReads (matrixOf b) j
+module _ (shape : Shape) (reads places lists : List ℕ) (ready : Ready shape reads places lists) where
+  abbrev M : Matrix
+  M = matrixIn shape reads
 
-  ends-are : (r : ℕ) → r < count (matrixOf b) → getD after r 0 ≡ end (read (matrixOf b) r)
-  ends-are r l = ready .noted .ends r (subst (λ (n : ℕ). r < n) (reads-are b) l)
+  ends-are : (r : ℕ) → r < count M → endAt places r ≡ end (read M r)
+  ends-are r l = ready .noted .ends r (subst (λ (n : ℕ). r < n) (count-is shape reads) l)
 
-  module _ (j : ℕ) (l : j < columnsField b) (p : ℕ) (q : p ≡ getD counts j 0) where
-    in-columns : j < matrixOf b .columns
-    in-columns = subst (λ (x : ℕ). j < x) (sym (columns-are b)) l
-
+  module _ (j : ℕ) (l : j < shape .m) (p : ℕ) (q : p ≡ countAt lists j) where
     -- the list's first p places are the column's active reads
-    pub list-is : take p (listPart b start first after counts lists ready j) ≡ activeReads (matrixOf b) j
+    pub list-is : take p (listPart shape reads places lists ready j) ≡ activeReads M j
     list-is =
-        let f : p ≤ 12 = list-fits b start first after counts lists ready j l p q .0 in
-        take-take p (12 * j + 12 - 12 * j) (drop (12 * j) lists) (omega arith)
-        ∙ ap (λ (n : ℕ). take n (drop (12 * j) lists)) (height-is b start first after counts lists ready j l p q)
-        ∙ ready .piled .listed j in-columns
+        let f : p ≤ 12 = list-fits shape reads places lists ready j l p q .0 in
+        take-take p (13 * j + 1 + 12 - (13 * j + 1)) (drop (13 * j + 1) lists) (omega arith)
+        ∙ ap (λ (n : ℕ). take n (drop (13 * j + 1) lists)) (height-is shape reads places lists ready j l p q)
+        ∙ ready .piled .holds j l .listed
 
     -- the ends that the list's reads have
-    ends-listed : (i : ℕ) → i < length (reads j) → getD after (getD (listPart b start first after counts lists ready j) i 0) 0 ≡ end (read (matrixOf b) (getD (reads j) i 0))
+    ends-listed : (i : ℕ) → i < length (activeReads M j) → endAt places (getD (listPart shape reads places lists ready j) i 0) ≡ end (read M (getD (activeReads M j) i 0))
     ends-listed i k =
-        let r : ℕ = getD (reads j) i 0 in
-        ap (λ (x : ℕ). getD after x 0) (part-listed b start first after counts lists ready j l i k) ∙ ends-are r (active-lt (matrixOf b) j r (has-getD (reads j) i k))
+        let r : ℕ = getD (activeReads M j) i 0 in
+        ap (λ (x : ℕ). endAt places x) (part-listed shape reads places lists ready j l i k) ∙ ends-are r (active-lt M j r (has-getD (activeReads M j) i k))
 
     -- those that close stand behind those that go on
-    pub closes-behind : (i : ℕ) → i + 1 < p → getD after (getD (listPart b start first after counts lists ready j) i 0) 0 ≡ j + 1
-        → getD after (getD (listPart b start first after counts lists ready j) (i + 1) 0) 0 ≡ j + 1
+    pub closes-behind : (i : ℕ) → i + 1 < p → endAt places (getD (listPart shape reads places lists ready j) i 0) ≡ j + 1
+        → endAt places (getD (listPart shape reads places lists ready j) (i + 1) 0) ≡ j + 1
     closes-behind i k h =
-        let many : p ≡ length (reads j) = height-is b start first after counts lists ready j l p q in
-        ap (λ (n : ℕ). getD after (getD (listPart b start first after counts lists ready j) n 0) 0) (add-one i)
+        let many : p ≡ length (activeReads M j) = height-is shape reads places lists ready j l p q in
+        ap (λ (n : ℕ). endAt places (getD (listPart shape reads places lists ready j) n 0)) (add-one i)
         ∙ ends-listed (suc i) (omega arith)
-        ∙ next-closes (matrixOf b) j in-columns i (omega arith) (sym (ends-listed i (omega arith)) ∙ h ∙ add-one j)
+        ∙ next-closes M j l i (omega arith) (sym (ends-listed i (omega arith)) ∙ h ∙ add-one j)
         ∙ sym (add-one j)
 
     -- those that go on are the shared reads
-    pub going-is : (s : ℕ) → s ≡ sumTo p (λ i. bit (not (eqb (getD after (getD (listPart b start first after counts lists ready j) i 0) 0) (j + 1)))) → s ≡ length (sharedReads (matrixOf b) j)
+    pub going-is : (s : ℕ) → s ≡ sumTo p (λ i. bit (not (eqb (endAt places (getD (listPart shape reads places lists ready j) i 0)) (j + 1)))) → s ≡ length (sharedReads M j)
     going-is s h =
         h
-        ∙ sum-ext p (λ i k. each i (subst (λ (x : ℕ). i < x) (height-is b start first after counts lists ready j l p q) k))
-        ∙ ap (λ (n : ℕ). sumTo n (λ i. goes (matrixOf b) j (getD (reads j) i 0))) (height-is b start first after counts lists ready j l p q)
-        ∙ sym (sum-places (reads j) (goes (matrixOf b) j))
-        ∙ going (matrixOf b) j in-columns
+        ∙ sum-ext p (λ i k. each i (subst (λ (x : ℕ). i < x) (height-is shape reads places lists ready j l p q) k))
+        ∙ ap (λ (n : ℕ). sumTo n (λ i. goes M j (getD (activeReads M j) i 0))) (height-is shape reads places lists ready j l p q)
+        ∙ sym (sum-places (activeReads M j) (goes M j))
+        ∙ going M j l
       where
-        each : (i : ℕ) → i < length (reads j) → bit (not (eqb (getD after (getD (listPart b start first after counts lists ready j) i 0) 0) (j + 1))) ≡ goes (matrixOf b) j (getD (reads j) i 0)
+        each : (i : ℕ) → i < length (activeReads M j) → bit (not (eqb (endAt places (getD (listPart shape reads places lists ready j) i 0)) (j + 1))) ≡ goes M j (getD (activeReads M j) i 0)
         each i k = ap₂ (λ (x y : ℕ). bit (not (eqb x y))) (ends-listed i k) (add-one j)
 
-    pub closing-is : (s : ℕ) → s ≡ length (sharedReads (matrixOf b) j) → drop s (take p (listPart b start first after counts lists ready j)) ≡ closingAt (matrixOf b) j
+    pub closing-is : (s : ℕ) → s ≡ length (sharedReads M j) → drop s (take p (listPart shape reads places lists ready j)) ≡ closingAt M j
     closing-is s e =
-        ap (drop s) (list-is ∙ active-split (matrixOf b) j in-columns) ∙ drop-at (sharedReads (matrixOf b) j) (closingAt (matrixOf b) j) s (sym e)
+        ap (drop s) (list-is ∙ active-split M j l) ∙ drop-at (sharedReads M j) (closingAt M j) s (sym e)
 
-    pub list-distinct : Distinct (take p (listPart b start first after counts lists ready j))
-    list-distinct = subst Distinct (sym list-is) (distinct-active (matrixOf b) j)
+    pub list-distinct : Distinct (take p (listPart shape reads places lists ready j))
+    list-distinct = subst Distinct (sym list-is) (distinct-active M j)
 
     -- the column's entries as a part of the work room
-    module _ (t : ℕ) (e : t ≡ entries (matrixOf b)) (work : List ℕ) (room : columnsField b * t ≤ length work) (n : ℕ) (f : n ≡ used p) where
+    module _ (t : ℕ) (e : t ≡ entries M) (work : List ℕ) (room : shape .m * t ≤ length work) (n : ℕ) (f : n ≡ used p) where
       entries-fit : n ≤ t
-      entries-fit = subst (λ (x : ℕ). x ≤ t) (sym (f ∙ ap used q)) (column-sizes b start first after counts lists ready j t l e .fits)
+      entries-fit = subst (λ (x : ℕ). x ≤ t) (sym (f ∙ ap used q)) (column-sizes shape reads places lists ready j t l e .fits)
 
       pub entries-length : length (take (j * t + n - j * t) (drop (j * t) work)) ≡ used p
       entries-length =
-          let z = column-sizes b start first after counts lists ready j t l e in
+          let z = column-sizes shape reads places lists ready j t l e in
           let y : n ≤ t = entries-fit in
           length-take-le (j * t + n - j * t) (drop (j * t) work) (omega (arith, length-drop (j * t) work)) ∙ omega arith
 
       -- what the column's reads get is one step of the way back
-      pub settled : (s : ℕ) → s ≡ length (sharedReads (matrixOf b) j) → (old new : List ℕ)
-          → ((r : ℕ) → getD new r 0 ≡ bit (firstOver (drop s (take p (listPart b start first after counts lists ready j)))
-          (entryFor (take p (listPart b start first after counts lists ready j)) (take (j * t + n - j * t) (drop (j * t) work))) (divisionOf old) r))
-          → (r : ℕ) → getD new r 0 ≡ bit (firstOver (closingAt (matrixOf b) j) (entryFor (activeReads (matrixOf b) j) (columnOf (matrixOf b) work j)) (divisionOf old) r)
+      pub settled : (s : ℕ) → s ≡ length (sharedReads M j) → (old new : List ℕ)
+          → ((r : ℕ) → getD new r 0 ≡ bit (firstOver (drop s (take p (listPart shape reads places lists ready j)))
+          (entryFor (take p (listPart shape reads places lists ready j)) (take (j * t + n - j * t) (drop (j * t) work))) (divisionOf old) r))
+          → (r : ℕ) → getD new r 0 ≡ bit (firstOver (closingAt M j) (entryFor (activeReads M j) (columnOf M work j)) (divisionOf old) r)
       settled s g old new h r =
           h r
           ∙ ap₂ (λ (x y : List ℕ). bit (firstOver x (entryFor y (take (j * t + n - j * t) (drop (j * t) work))) (divisionOf old) r)) (closing-is s g) list-is
-          ∙ ap (λ (d : Division). bit (d r)) (first-ext (closingAt (matrixOf b) j) (entryFor (reads j) (take (j * t + n - j * t) (drop (j * t) work))) (entryFor (reads j) (columnOf (matrixOf b) work j)) (divisionOf old) (λ d a. same d))
+          ∙ ap (λ (d : Division). bit (d r)) (first-ext (closingAt M j) (entryFor (activeReads M j) (take (j * t + n - j * t) (drop (j * t) work))) (entryFor (activeReads M j) (columnOf M work j)) (divisionOf old) (λ d a. same d))
         where
-          same : (d : Division) → entryFor (reads j) (take (j * t + n - j * t) (drop (j * t) work)) d ≡ entryFor (reads j) (columnOf (matrixOf b) work j) d
+          same : (d : Division) → entryFor (activeReads M j) (take (j * t + n - j * t) (drop (j * t) work)) d ≡ entryFor (activeReads M j) (columnOf M work j) d
           same d =
-              let k : ℕ = indexAt (reads j) d in
+              let k : ℕ = indexAt (activeReads M j) d in
               let y : n ≤ t = entries-fit in
-              let i : k < n = subst (λ (x : ℕ). k < x) (sym (f ∙ ap used (height-is b start first after counts lists ready j l p q))) (index-used (reads j) d) in
+              let i : k < n = subst (λ (x : ℕ). k < x) (sym (f ∙ ap used (height-is shape reads places lists ready j l p q))) (index-used (activeReads M j) d) in
               getD-take (j * t + n - j * t) (drop (j * t) work) k 0 (omega arith)
               ∙ ap (λ (a : ℕ). getD (drop (j * a) work) k 0) e
-              ∙ sym (getD-take (entries (matrixOf b)) (drop (j * entries (matrixOf b)) work) k 0 (omega arith))
+              ∙ sym (getD-take (entries M) (drop (j * entries M) work) k 0 (omega arith))
 
 -- sides that are bits, and the division that they give
 pub bits-division : (sides : List ℕ) (d : Division) → ((r : ℕ) → getD sides r 0 ≡ bit (d r)) → divisionOf sides ≡ d

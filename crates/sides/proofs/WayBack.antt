@@ -10,7 +10,7 @@ use lib.Seq.{getD-take, ext-getD}
 use lib.Pow.{pow-pos}
 use lib.Dec.{eqb}
 use Rattle.meaning.specs.Numbers.{bit, run}
-use Rattle.meaning.specs.Block.{Matrix, columnsField, readsField, matrixOf}
+use Rattle.meaning.specs.Block.{Matrix}
 use Rattle.meaning.specs.Active.{count, used, entries}
 use Rattle.meaning.specs.Closing.{activeReads, closingAt}
 use Rattle.meaning.specs.Division.{Division, firstOver, allZero}
@@ -18,9 +18,13 @@ use Rattle.meaning.specs.Answer.{sidesOf, divisionOf}
 use Rattle.meaning.specs.Rule.{entryFor, leastAt, leastEntry, sharedReads, columnOf, wayBack}
 use Rattle.meaning.proofs.Lists.{Distinct, length-run, getD-run}
 use Rattle.meaning.proofs.Closing.{active-split}
-use Rattle.table.specs.Ready.{Ready}
+use Rattle.layout.specs.declared.Shape.{Shape}
+use Rattle.layout.specs.Reads.{matrixIn}
+use Rattle.layout.specs.Places.{endAt}
+use Rattle.layout.specs.Lists.{countAt}
+use Rattle.layout.specs.Ready.{Ready}
 use Rattle.table.proofs.Pass.{least-parts}
-use Rattle.table.proofs.Sizes.{columns-are, ready-formed, column-sizes}
+use Rattle.table.proofs.Sizes.{column-sizes}
 use Rattle.table.proofs.Columns.{listPart, list-fits, list-read, height-is}
 use Rattle.sides.proofs.Back.{closes-behind, list-distinct, entries-length, bits-small, back-step}
 
@@ -59,36 +63,39 @@ module _ (M : Matrix) (col : ℕ → List ℕ) where
   back-end zero sides whole z n small e = sides-list M sides (divisionOf sides) n (λ r. bit-back (getD sides r 0) (small r)) ∙ ap (sidesOf M) e
   back-end (suc j) sides whole z n small e = absurd (let w : ⊥ = omega arith in w)
 
-module _ (b start first after counts lists : List ℕ) (ready : Ready b start first after counts lists) where
-  pub last-column : (m : ℕ) → m ≡ columnsField b → (0 < m) × (m - 1 < columnsField b)
-  last-column m e = let h : 0 < columnsField b = ready-formed b start first after counts lists ready .head .some-column in omega arith
+module _ (shape : Shape) (reads places lists : List ℕ) (ready : Ready shape reads places lists) where
+  abbrev M : Matrix
+  M = matrixIn shape reads
 
-  module _ (j : ℕ) (l : j < columnsField b) (p : ℕ) (q : p ≡ getD counts j 0) where
+  pub last-column : (0 < shape .m) × (shape .m - 1 < shape .m)
+  last-column = let h : 0 < shape .m = ready .lawful .some-column in omega arith
+
+  module _ (j : ℕ) (l : j < shape .m) (p : ℕ) (q : p ≡ countAt lists j) where
     -- what is asked to count the reads that go on
-    pub going-fits : ((p ≤ 12) × (p ≤ length (listPart b start first after counts lists ready j)) × (j < 1024))
-        × (((i : ℕ) → i < p → getD (listPart b start first after counts lists ready j) i 0 < length after)
-        × ((i : ℕ) → i + 1 < p → getD after (getD (listPart b start first after counts lists ready j) i 0) 0 ≡ j + 1
-        → getD after (getD (listPart b start first after counts lists ready j) (i + 1) 0) 0 ≡ j + 1))
+    pub going-fits : ((p ≤ 12) × (p ≤ length (listPart shape reads places lists ready j)) × (j < 1024))
+        × (((i : ℕ) → i < p → 3 * getD (listPart shape reads places lists ready j) i 0 + 2 < length places)
+        × ((i : ℕ) → i + 1 < p → endAt places (getD (listPart shape reads places lists ready j) i 0) ≡ j + 1
+        → endAt places (getD (listPart shape reads places lists ready j) (i + 1) 0) ≡ j + 1))
     going-fits =
-        let f = list-fits b start first after counts lists ready j l p q in
-        let z = column-sizes b start first after counts lists ready j (entries (matrixOf b)) l refl in
-        ((f .0, f .1, omega arith), (λ i k. le-trans (list-read b start first after counts lists ready j l p q i k) (ready .ends-room), closes-behind b start first after counts lists ready j l p q))
+        let f = list-fits shape reads places lists ready j l p q in
+        let z = column-sizes shape reads places lists ready j (entries M) l refl in
+        ((f .0, f .1, omega arith), (λ i k. omega (arith, list-read shape reads places lists ready j l p q i k, z .places-room), closes-behind shape reads places lists ready j l p q))
 
-    module _ (t : ℕ) (e : t ≡ entries (matrixOf b)) (work : List ℕ) (room : columnsField b * t ≤ length work) (n : ℕ) (f : n ≡ used p) where
+    module _ (t : ℕ) (e : t ≡ entries M) (work : List ℕ) (room : shape .m * t ≤ length work) (n : ℕ) (f : n ≡ used p) where
       -- and to settle those that close
-      pub settle-fits : (s : ℕ) → s ≡ length (sharedReads (matrixOf b) j) → (sides : List ℕ) → readsField b ≤ length sides → ((r : ℕ) → getD sides r 0 ≤ 1)
-          → ((p ≤ 12) × (s ≤ p) × (p ≤ length (listPart b start first after counts lists ready j)) × Distinct (take p (listPart b start first after counts lists ready j)))
-          × (((i : ℕ) → i < p → getD (listPart b start first after counts lists ready j) i 0 < length sides)
+      pub settle-fits : (s : ℕ) → s ≡ length (sharedReads M j) → (sides : List ℕ) → shape .n ≤ length sides → ((r : ℕ) → getD sides r 0 ≤ 1)
+          → ((p ≤ 12) × (s ≤ p) × (p ≤ length (listPart shape reads places lists ready j)) × Distinct (take p (listPart shape reads places lists ready j)))
+          × (((i : ℕ) → i < p → getD (listPart shape reads places lists ready j) i 0 < length sides)
           × ((length (take (j * t + n - j * t) (drop (j * t) work)) ≡ used p) × ((r : ℕ) → getD sides r 0 ≤ 1)))
       settle-fits s g sides many small =
-          let a = list-fits b start first after counts lists ready j l p q in
-          let split : length (activeReads (matrixOf b) j) ≡ length (sharedReads (matrixOf b) j) + length (closingAt (matrixOf b) j) =
-          ap length (active-split (matrixOf b) j (subst (λ (x : ℕ). j < x) (sym (columns-are b)) l)) ∙ length-append (sharedReads (matrixOf b) j) (closingAt (matrixOf b) j) in
-          let h : p ≡ length (activeReads (matrixOf b) j) = height-is b start first after counts lists ready j l p q in (
-            (a .0, omega arith, a .1, list-distinct b start first after counts lists ready j l p q),
+          let a = list-fits shape reads places lists ready j l p q in
+          let split : length (activeReads M j) ≡ length (sharedReads M j) + length (closingAt M j) =
+          ap length (active-split M j (l)) ∙ length-append (sharedReads M j) (closingAt M j) in
+          let h : p ≡ length (activeReads M j) = height-is shape reads places lists ready j l p q in (
+            (a .0, omega arith, a .1, list-distinct shape reads places lists ready j l p q),
             (
-              λ i k. le-trans (list-read b start first after counts lists ready j l p q i k) many,
-              (entries-length b start first after counts lists ready j l p q t e work room n f, small),
+              λ i k. le-trans (list-read shape reads places lists ready j l p q i k) many,
+              (entries-length shape reads places lists ready j l p q t e work room n f, small),
             ),
           )
 
@@ -96,7 +103,7 @@ module _ (b start first after counts lists : List ℕ) (ready : Ready b start fi
       some = subst (λ (x : ℕ). 0 < x) (sym f) (pow-pos (p - 1))
 
       part-length : length (take (j * t + n - j * t) (drop (j * t) work)) ≡ n
-      part-length = entries-length b start first after counts lists ready j l p q t e work room n f ∙ sym f
+      part-length = entries-length shape reads places lists ready j l p q t e work room n f ∙ sym f
 
       -- the column's entries, all of one class
       pub least-fits : ((0 < 1) × (0 < 1))
@@ -104,27 +111,19 @@ module _ (b start first after counts lists : List ℕ) (ready : Ready b start fi
       least-fits = let h = part-length in let z = some in ((omega arith, omega arith), (omega arith, omega arith))
 
       pub least-is : (x : ℕ) → x ≡ leastAt 1 (length (take (j * t + n - j * t) (drop (j * t) work)) / 1) (take (j * t + n - j * t) (drop (j * t) work)) 0
-          → x ≡ leastEntry (activeReads (matrixOf b) j) (columnOf (matrixOf b) work j)
+          → x ≡ leastEntry (activeReads M j) (columnOf M work j)
       unfolding leastEntry
       least-is x h =
           let rows : length (take (j * t + n - j * t) (drop (j * t) work)) / 1 ≡ n = let z = part-length in omega arith in
           h
           ∙ ap (λ (k : ℕ). leastAt 1 k (take (j * t + n - j * t) (drop (j * t) work)) 0) rows
-          ∙ least-parts (take (j * t + n - j * t) (drop (j * t) work)) (columnOf (matrixOf b) work j) 1 n 0 n (omega arith) some (omega arith) same
-          ∙ ap (λ (k : ℕ). leastAt 1 k (columnOf (matrixOf b) work j) 0) (f ∙ ap used (height-is b start first after counts lists ready j l p q))
+          ∙ least-parts (take (j * t + n - j * t) (drop (j * t) work)) (columnOf M work j) 1 n 0 n (omega arith) some (omega arith) same
+          ∙ ap (λ (k : ℕ). leastAt 1 k (columnOf M work j) 0) (f ∙ ap used (height-is shape reads places lists ready j l p q))
         where
-          same : (k : ℕ) → k < n → getD (take (j * t + n - j * t) (drop (j * t) work)) k 0 ≡ getD (columnOf (matrixOf b) work j) k 0
+          same : (k : ℕ) → k < n → getD (take (j * t + n - j * t) (drop (j * t) work)) k 0 ≡ getD (columnOf M work j) k 0
           same k v =
-              let z = column-sizes b start first after counts lists ready j t l e in
+              let z = column-sizes shape reads places lists ready j t l e in
               let y : n ≤ t = subst (λ (a : ℕ). a ≤ t) (sym (f ∙ ap used q)) (z .fits) in
               getD-take (j * t + n - j * t) (drop (j * t) work) k 0 (omega arith)
               ∙ ap (λ (a : ℕ). getD (drop (j * a) work) k 0) e
-              ∙ sym (getD-take (entries (matrixOf b)) (drop (j * entries (matrixOf b)) work) k 0 (omega arith))
-
--- all places before n are 0, and behind n there is nothing
-pub all-zero : (sides : List ℕ) (n : ℕ) → length sides ≤ n → ((r : ℕ) → r < n → getD sides r 0 ≡ 0) → (r : ℕ) → getD sides r 0 ≡ 0
-all-zero sides n h z r = go (decLe (suc r) n)
-  where
-    go : Dec (r < n) → getD sides r 0 ≡ 0
-    go (yes l) = z r l
-    go (no l) = List·getD-eq-default sides 0 (omega arith)
+              ∙ sym (getD-take (entries M) (drop (j * entries M) work) k 0 (omega arith))

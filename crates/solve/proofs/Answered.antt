@@ -22,11 +22,13 @@ use Rattle.meaning.specs.Table.{column}
 use Rattle.meaning.specs.Rule.{columnOf, leastEntry, wayBack}
 use Rattle.meaning.specs.Call.{over, laid}
 use Rattle.meaning.proofs.Lists.{length-run, getD-run, run-more, not-both}
-use Rattle.meaning.proofs.Modes.{charge-swap}
-use Rattle.meaning.proofs.Best.{best-empty}
-use Rattle.meaning.proofs.Closing.{Placed, closing-lt}
+use Rattle.meaning.proofs.Modes.{charge-local, charge-even}
+use Rattle.meaning.proofs.SidesRead.{sides-division}
+use Rattle.meaning.proofs.Closing.{Placed}
 use Rattle.meaning.proofs.Rule.{rule-cost, rule-back}
 use Rattle.meaning.proofs.Rooms.{length-laid, set-laid-end, set-laid-before}
+use Rattle.sides.specs.Ways.{tableLeast, tableDivision}
+use Rattle.solve.specs.Output.{divisionIn, flipsOf, withLetters, RightColumns}
 use Rattle.answer.specs.Head.{headBytes}
 use Rattle.answer.proofs.Laws.{answer-laid}
 
@@ -63,27 +65,6 @@ module _ (n m : ℕ) (f g : ℕ → ℕ) (out : List ℕ) (fits : 17 + n + 2 * m
       ∙ set-laid-end (17 + n + m) (run 0 j g) (laid (17 + n) (run 0 (j + 1) f) out) (g j) (omega arith)
       ∙ ap (λ (x : List ℕ). laid (17 + n + m) x (laid (17 + n) (run 0 (j + 1) f) out)) (more g)
 
--- the sides of the reported division, read back
-pub sides-division : (M : Matrix) → divisionOf (sidesOf M (best charge M)) ≡ best charge M
-unfolding sidesOf
-sides-division M = fun-ext (λ r. go r (decLe (suc r) (count M)))
-  where
-    d : Division
-    d = best charge M
-
-    back : (s : Bool) → eqb (bit s) 1 ≡ s
-    back true = refl
-    back false = refl
-
-    out : (r : ℕ) → (r < count M → ⊥) → d r ≡ false
-    out r h = best-empty charge M r (not-both (has r (closing M)) (λ m. h (closing-lt M r m)))
-
-    go : (r : ℕ) → Dec (r < count M) → divisionOf (run 0 (count M) (λ q. bit (d q))) r ≡ d r
-    go r (yes l) = ap (λ (x : ℕ). eqb x 1) (getD-run 0 (count M) (λ q. bit (d q)) r 0 l ∙ ap (λ (k : ℕ). bit (d k)) (zero-add r)) ∙ back (d r)
-    go r (no h) =
-        ap (λ (x : ℕ). eqb x 1) (List·getD-eq-default (run 0 (count M) (λ q. bit (d q))) 0 (let e : length (run 0 (count M) (λ q. bit (d q))) ≡ count M = length-run 0 (count M) (λ q. bit (d q)) in omega arith))
-        ∙ sym (out r h)
-
 -- all parts together
 pub answered : (M : Matrix) (n m cost flipped : ℕ) (old : List ℕ) → n ≡ count M → m ≡ M .columns → 17 + n + 2 * m ≤ length old
     → cost ≡ leastCost charge M → flipped ≡ flips M (best charge M) (haplotypes general M (best charge M))
@@ -110,13 +91,12 @@ sides-read n sides old e l =
 -- the whole output, step by step as it is written
 pub finished : (M : Matrix) (n m cost flipped : ℕ) (old o1 o2 o3 : List ℕ) → n ≡ count M → m ≡ M .columns → 17 + n + 2 * m ≤ length old
     → o1 ≡ laid 17 (sidesOf M (best charge M)) old
-    → flipped ≡ flips M (divisionOf (take n (drop 17 o1))) (haplotypes general M (divisionOf (take n (drop 17 o1))))
-    → o2 ≡ laid (17 + n + m) (lettersOf general M (divisionOf (take n (drop 17 o1))) true) (laid (17 + n) (lettersOf general M (divisionOf (take n (drop 17 o1))) false) o1)
+    → flipped ≡ flipsOf M (divisionIn n o1) → o2 ≡ withLetters M (divisionIn n o1) n m o1
     → cost ≡ leastCost charge M → o3 ≡ laid 0 (headBytes cost flipped n m) o2 → o3 ≡ over (answer general M) old
 unfolding sidesOf
 finished M n m cost flipped old o1 o2 o3 e f fits a b c d g =
     let k : length (sidesOf M (best charge M)) ≡ n = length-run 0 (count M) (λ r. bit (best charge M r)) ∙ sym e in
-    let s : divisionOf (take n (drop 17 o1)) ≡ best charge M =
+    let s : divisionIn n o1 ≡ best charge M =
     ap (λ (x : List ℕ). divisionOf (take n (drop 17 x))) a ∙ ap divisionOf (sides-read n (sidesOf M (best charge M)) old k (omega arith)) ∙ sides-division M in
     g
     ∙ ap (laid 0 (headBytes cost flipped n m))
@@ -134,13 +114,11 @@ output-length n sides old e l =
     ap length (sides-laid n sides old k l) ∙ length-laid 17 sides old (omega arith)
 
 -- the least entry of the last column is the cost
-pub cost-is : (M : Matrix) → Placed M → (m : ℕ) → m ≡ M .columns → 0 < m → (work : List ℕ) → columnOf M work (m - 1) ≡ column charge M (m - 1)
-    → leastEntry (activeReads M (m - 1)) (columnOf M work (m - 1)) ≡ leastCost charge M
-cost-is M placed m e z work h =
-    ap (leastEntry (activeReads M (m - 1))) h ∙ rule-cost charge charge-swap M placed (m - 1) (let q : M .columns ≡ suc (m - 1) = omega arith in q)
+pub cost-is : (M : Matrix) → Placed M → 0 < M .columns → (work : List ℕ) → RightColumns M work → tableLeast M work ≡ leastCost charge M
+cost-is M placed z work h =
+    ap (leastEntry (activeReads M (M .columns - 1))) (h (M .columns - 1) (omega arith))
+    ∙ rule-cost charge M (charge-local M) (charge-even M) placed (M .columns - 1) (let q : M .columns ≡ suc (M .columns - 1) = omega arith in q)
 
 -- the sides of the way back are those of the reported division
-pub sides-are : (M : Matrix) → Placed M → (m : ℕ) → m ≡ M .columns → (work : List ℕ) → ((j : ℕ) → j < M .columns → columnOf M work j ≡ column charge M j)
-    → sidesOf M (wayBack M (columnOf M work) m allZero) ≡ sidesOf M (best charge M)
-sides-are M placed m e work h =
-    ap (λ (k : ℕ). sidesOf M (wayBack M (columnOf M work) k allZero)) e ∙ ap (sidesOf M) (rule-back charge charge-swap M placed (columnOf M work) h)
+pub sides-are : (M : Matrix) → Placed M → (work : List ℕ) → RightColumns M work → sidesOf M (tableDivision M work) ≡ sidesOf M (best charge M)
+sides-are M placed work h = ap (sidesOf M) (rule-back charge M (charge-local M) (charge-even M) placed (columnOf M work) h)

@@ -7,16 +7,17 @@ use native.Mathlib.Omega.{arith}
 use lib.ListN.{length, take, drop, set, length-drop}
 use lib.Seq.{length-take-le}
 use Rattle.meaning.specs.Numbers.{bit, sumTo}
-use Rattle.meaning.specs.Block.{Matrix, columnsField, matrixOf}
+use Rattle.meaning.specs.Block.{Matrix}
 use Rattle.meaning.specs.Active.{count, read, at}
 use Rattle.meaning.specs.Division.{Side, Division}
 use Rattle.meaning.specs.Charge.{W}
 use Rattle.meaning.specs.Letters.{general, reported, haplotypes, isFlip, flips}
 use Rattle.meaning.specs.Answer.{divisionOf, lettersOf}
 use Rattle.meaning.specs.Call.{laid}
-use Rattle.column.proofs.Laws.{leaf-more}
+use Rattle.sums.proofs.Laws.{leaf-more}
 use Rattle.tally.specs.declared.Letters.{Letters}
 use Rattle.tally.specs.Tally.{Tallied, Lettered}
+use Rattle.solve.specs.Output.{divisionIn, flipsOf, withLetters}
 use Rattle.solve.proofs.Answered.{lettersTo, letters-none, letters-length, letters-more}
 
 -- the sides as a part of the output
@@ -28,10 +29,11 @@ module _ (n : ℕ) (out : List ℕ) where
   sides-length h = length-take-le (17 + n - 17) (drop 17 out) (omega (arith, length-drop 17 out)) ∙ sides-count
 
   -- what the tally of these sides tells of a column
-  pub sides-lettered : (b tally : List ℕ) → Tallied b (take (17 + n - 17) (drop 17 out)) tally → (j : ℕ) → j < columnsField b → (x : Letters)
-      → ((b sides : List ℕ) → Tallied b sides tally → j < columnsField b → Lettered (matrixOf b) (divisionOf sides) j x)
-      → Lettered (matrixOf b) (divisionOf (take n (drop 17 out))) j x
-  sides-lettered b tally t j l x h = subst (λ (k : ℕ). Lettered (matrixOf b) (divisionOf (take k (drop 17 out))) j x) sides-count (h b (take (17 + n - 17) (drop 17 out)) t l)
+  pub sides-lettered : (M : Matrix) (tally : List ℕ) → Tallied M (take (17 + n - 17) (drop 17 out)) tally → (j : ℕ) → j < M .columns → (x : Letters)
+      → ((M : Matrix) (sides : List ℕ) → Tallied M sides tally → j < M .columns → Lettered M (divisionOf sides) j x)
+      → Lettered M (divisionIn n out) j x
+  sides-lettered M tally t j l x h =
+      subst (λ (k : ℕ). Lettered M (divisionOf (take k (drop 17 out))) j x) sides-count (h M (take (17 + n - 17) (drop 17 out)) t l)
 
 -- what is reported of a side at a column, and the column's flips
 abbrev pub letterAt : Matrix → Division → Side → ℕ → ℕ
@@ -39,10 +41,6 @@ letterAt M d s j = reported general (W M d j) s
 
 abbrev pub flipsAt : Matrix → Division → ℕ → ℕ
 flipsAt M d j = sumTo (count M) (λ q. bit (isFlip (haplotypes general M d (d q) j) (at (read M q) j)))
-
--- the division that stands in the output
-abbrev pub divisionIn : ℕ → List ℕ → Division
-divisionIn n out = divisionOf (take n (drop 17 out))
 
 -- the letters of the first j columns are written, and their flips counted
 pub record Written (M : Matrix) (n m : ℕ) (old out : List ℕ) (flipped j : ℕ) : Type 0 where
@@ -85,8 +83,7 @@ module _ (M : Matrix) (n m : ℕ) (old : List ℕ) (fits : 17 + n + 2 * m ≤ le
 
     -- all columns done
     pub written-all : m ≡ M .columns → m ≤ j
-        → (flipped ≡ flips M d (haplotypes general M d))
-        × (out ≡ laid (17 + n + m) (lettersOf general M d true) (laid (17 + n) (lettersOf general M d false) old))
+        → (flipped ≡ flipsOf M d) × (out ≡ withLetters M d n m old)
     unfolding flips lettersOf
     written-all e l =
         let k : j ≡ M .columns = omega (arith, w .inside) in (

@@ -1,2 +1,3 @@
-pub mod Piling
+pub mod Rooms
 pub mod Outcomes
+pub mod Output

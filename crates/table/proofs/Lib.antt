@@ -1,4 +1,5 @@
 pub mod Sizes
 pub mod Pass
+pub mod Handed
 pub mod Columns
 pub mod Filled

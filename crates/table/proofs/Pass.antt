@@ -14,7 +14,7 @@ use Rattle.meaning.specs.Block.{Matrix, Read}
 use Rattle.meaning.specs.Active.{count, read, end, active, used, entries}
 use Rattle.meaning.specs.Closing.{activeReads, closingAt}
 use Rattle.meaning.specs.Division.{Division}
-use Rattle.meaning.specs.Charge.{W, charge}
+use Rattle.meaning.specs.Charge.{W, chargeOf, charge}
 use Rattle.meaning.specs.Table.{pattern}
 use Rattle.meaning.specs.Rule.{indexAt, leastAt, sharedReads, carried, columnFrom, ruleColumn, columnOf}
 use Rattle.meaning.proofs.Totals.{min-ext, sum-ext, sum-zero}
@@ -24,10 +24,10 @@ use Rattle.meaning.proofs.Index.{index-used}
 use Rattle.meaning.proofs.Carried.{rows}
 use Rattle.fold.specs.Turn.{sideAt, foldTo, startsBefore, sharedTo, turnAt}
 use Rattle.fold.proofs.Laws.{fold-is, shared-count}
-use Rattle.column.specs.Sums.{sumsWith}
+use Rattle.sums.specs.Sums.{sumsWith}
 use Rattle.column.specs.Pass.{entryAt, passed}
 use Rattle.column.proofs.Join.{Paired, sums-is}
-use Rattle.table.specs.Ready.{sharedBefore, passedOver, TakenOver}
+use Rattle.table.specs.Taken.{sharedBefore, passedOver, TakenOver}
 
 module _ (M : Matrix) (placed : Placed M) (j : ℕ) (w : List (List ℕ)) (turn taken : List ℕ) (paired : Paired M j w) where
   -- the pass is the rule, if what each index takes over is what the rule says of its division
@@ -39,9 +39,9 @@ module _ (M : Matrix) (placed : Placed M) (j : ℕ) (w : List (List ℕ)) (turn 
       run-ext-at 0 (entries M) (λ k a b. go k (ltb k (used (length (activeReads M j)))) refl)
     where
       go : (k : ℕ) (t : Bool) → ltb k (used (length (activeReads M j))) ≡ t
-          → cond t (charge (sumsWith w (length (activeReads M j)) (sideAt k)) + getD taken (foldTo turn k (length (activeReads M j))) 0) 0
-          ≡ cond t (charge (W M (pattern (activeReads M j) k) j) + before (pattern (activeReads M j) k)) 0
-      go k true e = ap₂ _+_ (ap charge (sym (sums-is M placed j w paired k))) (h k (ltb-true k (used (length (activeReads M j))) e))
+          → cond t (chargeOf (sumsWith w (length (activeReads M j)) (sideAt k)) + getD taken (foldTo turn k (length (activeReads M j))) 0) 0
+          ≡ cond t (chargeOf (W M (pattern (activeReads M j) k) j) + before (pattern (activeReads M j) k)) 0
+      go k true e = ap₂ _+_ (ap chargeOf (sym (sums-is M placed j w paired k))) (h k (ltb-true k (used (length (activeReads M j))) e))
       go k false e = refl
 
 -- the least of a class looks at the entries that the classes fill
@@ -57,14 +57,8 @@ least-parts a b step (suc rows) g n l z e h =
         let y : step * suc rows ≡ suc rows * step = mul-comm step (suc rows) in
         omega arith
 
--- the indices of the shared reads fill a column's entries
-pub classes-fill : (M : Matrix) (i : ℕ) → i < M .columns → used (length (sharedReads M i)) * (used (length (activeReads M i)) / used (length (sharedReads M i))) ≡ used (length (activeReads M i))
-classes-fill M i inside =
-    subst (λ (l : List ℕ). used (length (sharedReads M i)) * (used (length l) / used (length (sharedReads M i))) ≡ used (length l)) (sym (active-split M i inside))
-    (rows (sharedReads M i) (closingAt M i) (subst Distinct (active-split M i inside) (distinct-active M i)) (λ r. false))
-
 -- a mask goes by which reads are shared
-turn-ext : (a b : ℕ → Bool) (p i : ℕ) → i < p → ((q : ℕ) → q < p → a q ≡ b q) → turnAt a p i ≡ turnAt b p i
+pub turn-ext : (a b : ℕ → Bool) (p i : ℕ) → i < p → ((q : ℕ) → q < p → a q ≡ b q) → turnAt a p i ≡ turnAt b p i
 unfolding turnAt
 turn-ext a b p i l h =
     let e : sharedTo a i ≡ sharedTo b i = sum-ext i (λ q k. ap bit (h q (omega arith))) in
@@ -87,15 +81,15 @@ starts-active r i a = go (active r i) refl
         late (yes x) = absurd (true≢false (sym (active-of r i x (let d = c in omega arith)) ∙ e))
         late (no x) = omega arith
 
-module _ (M : Matrix) (i : ℕ) (first list : List ℕ)
+module _ (M : Matrix) (i : ℕ) (first : ℕ → ℕ) (list : List ℕ)
     (listed : (q : ℕ) → q < length (activeReads M (suc i)) → getD list q 0 ≡ getD (activeReads M (suc i)) q 0)
-    (firsts : (r : ℕ) → r < count M → getD first r 0 ≡ read M r .first) where
+    (firsts : (r : ℕ) → r < count M → first r ≡ read M r .first) where
   -- the shared reads are those that start before the column
   pub starts-shared : (q : ℕ) → q < length (activeReads M (suc i)) → startsBefore first list (suc i) q ≡ active (read M (getD (activeReads M (suc i)) q 0)) i
   starts-shared q l =
       let r : ℕ = getD (activeReads M (suc i)) q 0 in
       let m : has r (activeReads M (suc i)) ≡ true = has-getD (activeReads M (suc i)) q l in
-      ap (λ (x : ℕ). ltb (getD first x 0) (suc i)) (listed q l)
+      ap (λ (x : ℕ). ltb (first x) (suc i)) (listed q l)
       ∙ ap (λ (x : ℕ). ltb x (suc i)) (firsts r (active-lt M (suc i) r m))
       ∙ starts-active (read M r) i (active-is M (suc i) r m)
 
@@ -114,11 +108,11 @@ module _ (M : Matrix) (i : ℕ) (first list : List ℕ)
         k
 
 -- no read starts before column 0
-none-before : (first list : List ℕ) (q : ℕ) → startsBefore first list 0 q ≡ false
-none-before first list q = le-ltb (getD first (getD list q 0) 0) 0 zero-le
+none-before : (first : ℕ → ℕ) (list : List ℕ) (q : ℕ) → startsBefore first list 0 q ≡ false
+none-before first list q = le-ltb (first (getD list q 0)) 0 zero-le
 
 -- the shared reads of any column
-module _ (M : Matrix) (first list : List ℕ) (firsts : (r : ℕ) → r < count M → getD first r 0 ≡ read M r .first) where
+module _ (M : Matrix) (first : ℕ → ℕ) (list : List ℕ) (firsts : (r : ℕ) → r < count M → first r ≡ read M r .first) where
   pub shared-before : (j : ℕ) → ((q : ℕ) → q < length (activeReads M j) → getD list q 0 ≡ getD (activeReads M j) q 0)
       → sharedTo (startsBefore first list j) (length (activeReads M j)) ≡ length (sharedBefore M j)
   shared-before zero listed = sum-zero (length (activeReads M 0)) (λ q l. ap bit (none-before first list q))
@@ -146,7 +140,7 @@ module _ (M : Matrix) (first list : List ℕ) (firsts : (r : ℕ) → r < count 
 pub column-ext : (M : Matrix) (j : ℕ) (f g : Division → ℕ) → ((d : Division) → f d ≡ g d) → columnFrom charge M j f ≡ columnFrom charge M j g
 unfolding columnFrom
 column-ext M j f g h =
-    run-ext-at 0 (entries M) (λ k a b. ap (λ (x : ℕ). cond (ltb k (used (length (activeReads M j)))) (charge (W M (pattern (activeReads M j) k) j) + x) 0) (h (pattern (activeReads M j) k)))
+    run-ext-at 0 (entries M) (λ k a b. ap (λ (x : ℕ). cond (ltb k (used (length (activeReads M j)))) (chargeOf (W M (pattern (activeReads M j) k) j) + x) 0) (h (pattern (activeReads M j) k)))
 
 -- so the pass is the rule: at column 0, and at column i + 1 with what column i hands on
 pub over-first : (M : Matrix) (taken col : List ℕ) → getD taken 0 0 ≡ 0 → passedOver M 0 taken ≡ ruleColumn charge M 0 col

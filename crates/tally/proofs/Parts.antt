@@ -7,15 +7,14 @@ use mathlib.Core.List.{List, [], _∷_}
 use mathlib.Core.Path.{_≡_, refl, sym, ap, ap₂, _∙_}
 use native.Mathlib.Omega.{arith}
 use Rattle.meaning.specs.Numbers.{bit, sumTo}
-use Rattle.meaning.specs.Block.{Cell, Matrix, columnsField, readsField, cellSize, readsPart, matrixOf}
+use Rattle.meaning.specs.Block.{Cell, Matrix}
 use Rattle.meaning.specs.Active.{count, read, at}
 use Rattle.meaning.specs.Division.{Side, Division}
 use Rattle.meaning.specs.Charge.{Letter, against, W}
 use Rattle.meaning.specs.Letters.{letterOf, general, reported, haplotypes, isFlip}
 use Rattle.meaning.specs.Answer.{divisionOf}
 use Rattle.meaning.proofs.Totals.{sum-ext, sum-add, sum-times, sum-bound}
-use Rattle.meaning.proofs.Formed.{formed, length-reads}
-use Rattle.column.specs.Sums.{arrayOf, pairAt}
+use Rattle.sums.specs.Sums.{arrayOf, pairAt}
 use Rattle.tally.specs.Tally.{unit, tallyOf, talliedTo, place, Tallied, Lettered}
 use Rattle.tally.proofs.Turns.{bit-small}
 
@@ -48,36 +47,32 @@ module _ (M : Matrix) (d : Division) (j : ℕ) (s : Side) (l : Letter) where
   weight-small : count M ≤ 1024 → ((r : ℕ) → r < count M → at (read M r) j .weight ≤ 255) → W M d j s l < unit
   unfolding W against
   weight-small few light =
-      omega (arith, sum-bound (count M) 255 {f = λ q. cond (Bool·beq (d q) s) (against l (at (read M q) j)) 0} (λ q h. go (Bool·beq (d q) s) (eqb (at (read M q) j .letter) (bit (not l))) (at (read M q) j .weight) (light q h)))
+      let total : W M d j s l ≤ count M * 255 =
+      sum-bound (count M) 255 {f = λ q. cond (Bool·beq (d q) s) (against l (at (read M q) j)) 0}
+      (λ q h. go (Bool·beq (d q) s) (eqb (at (read M q) j .letter) (bit (not l))) (at (read M q) j .weight) (light q h)) in
+      omega arith
     where
       go : (t e : Bool) (w : ℕ) → w ≤ 255 → cond t (cond e w 0) 0 ≤ 255
       go true true w h = h
       go true false w h = omega arith
       go false e w h = omega arith
 
--- read off a block's tally
-module _ (b sides tally : List ℕ) (of : Tallied b sides tally) (j : ℕ) (inside : j < columnsField b) where
-  reads-are : count (matrixOf b) ≡ readsField b
-  unfolding matrixOf
-  reads-are = length-reads (cellSize b) (readsField b) (readsPart b)
-
-  reads-few : count (matrixOf b) ≤ 1024
-  reads-few = omega (arith, reads-are, formed 1 b (of .good) .head .few-reads)
+-- read off a matrix's tally
+module _ (M : Matrix) (sides tally : List ℕ) (of : Tallied M sides tally) (j : ℕ) (inside : j < M .columns) where
+  abbrev d : Division
+  d = divisionOf sides
 
   module _ (s : Side) (l : Letter) where
-    parts : getD tally (place j s (not l)) 0 ≡ flipsOf (matrixOf b) (divisionOf sides) j s l * unit + W (matrixOf b) (divisionOf sides) j s l
-    parts =
-        of .each j inside s (not l)
-        ∙ ap (λ (n : ℕ). talliedTo (matrixOf b) (divisionOf sides) n j s (not l)) (sym reads-are)
-        ∙ tallied-parts (matrixOf b) (divisionOf sides) j s l
+    parts : getD tally (place j s (not l)) 0 ≡ flipsOf M d j s l * unit + W M d j s l
+    parts = of .each j inside s (not l) ∙ tallied-parts M d j s l
 
-    small : W (matrixOf b) (divisionOf sides) j s l < unit
-    small = weight-small (matrixOf b) (divisionOf sides) j s l reads-few (λ r h. of .light r j (omega (arith, reads-are)))
+    small : W M d j s l < unit
+    small = weight-small M d j s l (of .few-reads) (λ r h. of .light r j h)
 
-    pub weight-read : getD tally (place j s (not l)) 0 % unit ≡ W (matrixOf b) (divisionOf sides) j s l
+    pub weight-read : getD tally (place j s (not l)) 0 % unit ≡ W M d j s l
     weight-read = omega (arith, parts, small)
 
-    pub flips-read : getD tally (place j s (not l)) 0 / unit ≡ flipsOf (matrixOf b) (divisionOf sides) j s l
+    pub flips-read : getD tally (place j s (not l)) 0 / unit ≡ flipsOf M d j s l
     flips-read = omega (arith, parts, small)
 
   -- the four tallies of the column, as they are read
@@ -91,41 +86,49 @@ module _ (b sides tally : List ℕ) (of : Tallied b sides tally) (j : ℕ) (insi
     pub side-one : f (getD tally (4 * j + 3) 0) ∷ f (getD tally (4 * j + 2) 0) ∷ [] ≡ sum true false ∷ sum true true ∷ []
     side-one = ap₂ (λ (x y : ℕ). x ∷ y ∷ []) (at-place (4 * j + 3) true false (omega arith)) (at-place (4 * j + 2) true true (omega arith))
 
-  pub sums-read : (getD tally (4 * j + 1) 0 % unit ∷ getD tally (4 * j) 0 % unit ∷ []) ∷ (getD tally (4 * j + 3) 0 % unit ∷ getD tally (4 * j + 2) 0 % unit ∷ []) ∷ []
-      ≡ arrayOf (W (matrixOf b) (divisionOf sides) j)
+  pub sums-read : (getD tally (4 * j + 1) 0 % unit ∷ getD tally (4 * j) 0 % unit ∷ [])
+      ∷ (getD tally (4 * j + 3) 0 % unit ∷ getD tally (4 * j + 2) 0 % unit ∷ []) ∷ []
+      ≡ arrayOf (W M d j)
   sums-read =
       ap₂ (λ (x y : List ℕ). x ∷ y ∷ [])
-      (side-zero (λ x. x % unit) (W (matrixOf b) (divisionOf sides) j) weight-read)
-      (side-one (λ x. x % unit) (W (matrixOf b) (divisionOf sides) j) weight-read)
+      (side-zero (λ x. x % unit) (W M d j) weight-read)
+      (side-one (λ x. x % unit) (W M d j) weight-read)
 
   -- the flips of both sides are those of all reads
-  flips-all : (h : Side → Letter) → flipsOf (matrixOf b) (divisionOf sides) j false (h false) + flipsOf (matrixOf b) (divisionOf sides) j true (h true)
-      ≡ sumTo (count (matrixOf b)) (λ q. bit (isFlip (h (divisionOf sides q)) (at (read (matrixOf b) q) j)))
+  flips-all : (h : Side → Letter)
+      → flipsOf M d j false (h false) + flipsOf M d j true (h true) ≡ sumTo (count M) (λ q. bit (isFlip (h (d q)) (at (read M q) j)))
   unfolding flipsOf
-  flips-all h = sym (sum-add (count (matrixOf b)) _ _) ∙ sum-ext (count (matrixOf b)) (λ q l. go (at (read (matrixOf b) q) j) (divisionOf sides q))
+  flips-all h = sym (sum-add (count M) _ _) ∙ sum-ext (count M) (λ q l. go (at (read M q) j) (d q))
     where
-      go : (c : Cell) (s : Side) → cond (Bool·beq s false) (bit (isFlip (h false) c)) 0 + cond (Bool·beq s true) (bit (isFlip (h true) c)) 0 ≡ bit (isFlip (h s) c)
+      go : (c : Cell) (s : Side)
+          → cond (Bool·beq s false) (bit (isFlip (h false) c)) 0 + cond (Bool·beq s true) (bit (isFlip (h true) c)) 0 ≡ bit (isFlip (h s) c)
       go c false = omega arith
       go c true = omega arith
 
   -- the letters, and each side's entries against its letter
-  pub lettered : (f g a c x y : ℕ)
-      → f ≡ reported general (W (matrixOf b) (divisionOf sides) j) false → g ≡ reported general (W (matrixOf b) (divisionOf sides) j) true
-      → a ≡ bit (letterOf (W (matrixOf b) (divisionOf sides) j) false) → c ≡ bit (letterOf (W (matrixOf b) (divisionOf sides) j) true)
+  pub lettered : (f g a c x y : ℕ) → f ≡ reported general (W M d j) false → g ≡ reported general (W M d j) true
+      → a ≡ bit (letterOf (W M d j) false) → c ≡ bit (letterOf (W M d j) true)
       → ((l : Letter) → a ≡ bit l → x ≡ pairAt (getD tally (4 * j + 1) 0 / unit ∷ getD tally (4 * j) 0 / unit ∷ []) l)
       → ((l : Letter) → c ≡ bit l → y ≡ pairAt (getD tally (4 * j + 3) 0 / unit ∷ getD tally (4 * j + 2) 0 / unit ∷ []) l)
-      → Lettered (matrixOf b) (divisionOf sides) j (record { first = f; second = g; flips = x + y })
+      → Lettered M d j (record { first = f; second = g; flips = x + y })
   unfolding haplotypes
   lettered f g a c x y ef eg ea ec hx hy =
-      let M : Matrix = matrixOf b in
-      let d : Division = divisionOf sides in
       let h : Side → Letter = letterOf (W M d j) in
-      let zero-side : x ≡ flipsOf M d j false (h false) = hx (h false) ea ∙ ap (λ (n : List ℕ). pairAt n (h false)) (side-zero (λ x. x / unit) (flipsOf M d j) flips-read) ∙ pair-has (flipsOf M d j false) (h false) in
-      let one-side : y ≡ flipsOf M d j true (h true) = hy (h true) ec ∙ ap (λ (n : List ℕ). pairAt n (h true)) (side-one (λ x. x / unit) (flipsOf M d j) flips-read) ∙ pair-has (flipsOf M d j true) (h true) in
-      let sum : x + y ≡ sumTo (count M) (λ q. bit (isFlip (h (d q)) (at (read M q) j))) = ap₂ _+_ zero-side one-side ∙ flips-all h in
+      let zero-side : x ≡ flipsOf M d j false (h false) =
+      hx (h false) ea
+      ∙ ap (λ (n : List ℕ). pairAt n (h false)) (side-zero (λ x. x / unit) (flipsOf M d j) flips-read)
+      ∙ pair-has (flipsOf M d j false) (h false) in
+      let one-side : y ≡ flipsOf M d j true (h true) =
+      hy (h true) ec
+      ∙ ap (λ (n : List ℕ). pairAt n (h true)) (side-one (λ x. x / unit) (flipsOf M d j) flips-read)
+      ∙ pair-has (flipsOf M d j true) (h true) in
+      let flipped : ℕ → ℕ = λ q. bit (isFlip (h (d q)) (at (read M q) j)) in
+      let sum : x + y ≡ sumTo (count M) flipped = ap₂ _+_ zero-side one-side ∙ flips-all h in
+      let most : sumTo (count M) flipped ≤ count M * 1 =
+      sum-bound (count M) 1 {f = flipped} (λ q l. bit-small (isFlip (h (d q)) (at (read M q) j))) in
       record {
         first-is = ef;
         second-is = eg;
         flips-are = sum;
-        flips-few = omega (arith, sum, reads-few, sum-bound (count M) 1 {f = λ q. bit (isFlip (h (d q)) (at (read M q) j))} (λ q l. bit-small (isFlip (h (d q)) (at (read M q) j))));
+        flips-few = omega (arith, sum, of .few-reads, most);
       }

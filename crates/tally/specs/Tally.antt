@@ -1,4 +1,4 @@
--- The tally of a block: for each column, side and letter how many entries it has, and their weight.
+-- The tally of a matrix: for each column, side and letter how many entries it has, and their weight.
 use Prim.Native.Nat.{ℕ, _+_, _*_, _≤_, _<_}
 use mathlib.Core.Bool.{true, false, cond, Bool·beq}
 use mathlib.Core.List.{List}
@@ -6,13 +6,12 @@ use mathlib.Core.Path.{_≡_}
 use lib.Dec.{eqb}
 use lib.ListN.{length, getD}
 use Rattle.meaning.specs.Numbers.{bit, sumTo}
-use Rattle.meaning.specs.Block.{Cell, Read, Matrix, columnsField, readsField, matrixOf}
+use Rattle.meaning.specs.Block.{Cell, Read, Matrix}
 use Rattle.meaning.specs.Active.{count, read, at}
 use Rattle.meaning.specs.Division.{Side, Division}
 use Rattle.meaning.specs.Charge.{Letter, W}
 use Rattle.meaning.specs.Letters.{general, reported, haplotypes, isFlip}
 use Rattle.meaning.specs.Answer.{divisionOf}
-use Rattle.meaning.specs.Refusals.{blockRefusal}
 use Rattle.tally.specs.declared.Letters.{Letters}
 
 -- 2^18, above the weight of any 1,024 cells
@@ -31,16 +30,18 @@ talliedTo M d r j s l = sumTo r (λ q. cond (Bool·beq (d q) s) (tallyOf l (at (
 abbrev pub place : ℕ → Side → Letter → ℕ
 place j s l = 4 * j + 2 * bit s + bit l
 
--- the tally of a block, whose weights are bytes, for sides
-pub record Tallied (b sides tally : List ℕ) : Type 0 where
-  pub good : blockRefusal 1 b .number ≡ 0
-  pub light : (r j : ℕ) → r < readsField b → at (read (matrixOf b) r) j .weight ≤ 255
-  pub room : 4 * columnsField b ≤ length tally
-  pub each : (j : ℕ) → j < columnsField b → (s : Side) (l : Letter) → getD tally (place j s l) 0 ≡ talliedTo (matrixOf b) (divisionOf sides) (readsField b) j s l
+-- the tally for sides of a matrix of at most 1,024 reads, whose weights are bytes
+pub record Tallied (M : Matrix) (sides tally : List ℕ) : Type 0 where
+  pub few-reads : count M ≤ 1024
+  pub light : (r j : ℕ) → r < count M → at (read M r) j .weight ≤ 255
+  pub room : 4 * M .columns ≤ length tally
+  pub each : (j : ℕ) → j < M .columns → (s : Side) (l : Letter)
+      → getD tally (place j s l) 0 ≡ talliedTo M (divisionOf sides) (count M) j s l
 
 -- one read more, on a side
 abbrev pub ReadAdded : Read → Side → List ℕ → List ℕ → Type 0
-ReadAdded x side old new = (j : ℕ) (s : Side) (l : Letter) → getD new (place j s l) 0 ≡ getD old (place j s l) 0 + cond (Bool·beq side s) (tallyOf l (at x j)) 0
+ReadAdded x side old new = (j : ℕ) (s : Side) (l : Letter)
+    → getD new (place j s l) 0 ≡ getD old (place j s l) 0 + cond (Bool·beq side s) (tallyOf l (at x j)) 0
 
 -- the letters that are reported of column j, and the flips against its letters, for a division
 pub record Lettered (M : Matrix) (d : Division) (j : ℕ) (r : Letters) : Type 0 where

@@ -1,4 +1,4 @@
-// The tally of a block's cells for sides: one pass over the reads; each column's sums, letters and flips are read off it.
+// The tally of the reads' cells for sides: one pass over the reads; each column's sums, letters and flips are read off it.
 ghost use mathlib.Core.Path.{_≡_};
 ghost use mathlib.Core.Bool.{false, cond, not};
 ghost use mathlib.Core.List.{List};
@@ -6,13 +6,14 @@ ghost use Prim.Native.Nat.{ℕ, _+_, _*_, _-_, _/_, _≤_, _<_};
 ghost use lib.Dec.{ltb, eqb};
 ghost use lib.ListN.{length, getD};
 ghost use Rattle.meaning.specs.Numbers.{bit};
-ghost use Rattle.meaning.specs.Block.{cellAt, matrixOf, columnsField, readsField};
+ghost use Rattle.meaning.specs.Block.{Matrix, cellAt};
 ghost use Rattle.meaning.specs.Division.{Side};
 ghost use Rattle.meaning.specs.Charge.{Letter, W};
 ghost use Rattle.meaning.specs.Answer.{divisionOf};
-ghost use Rattle.meaning.specs.Refusals.{badCell, blockRefusal};
-ghost use Rattle.block.specs.Places.{Noted, readFrom};
-ghost use Rattle.column.specs.Sums.{pairAt, arrayOf, sideOf};
+ghost use Rattle.meaning.specs.Refusals.{badCell};
+ghost use Rattle.layout.specs.Reads.{matrixIn, Lawful};
+ghost use Rattle.layout.specs.Places.{Noted, readFrom};
+ghost use Rattle.sums.specs.Sums.{pairAt, arrayOf, sideOf};
 ghost use Rattle.tally.specs.Tally.{unit, place, Tallied, ReadAdded, Lettered};
 
 // The letters that are reported of the two sides at a column, and how many entries differ from their side's letter.
@@ -22,39 +23,28 @@ pub struct Letters {
     pub flips: u32,
 }
 
-fn wide(b: u8) -> u32
-    ensures { λ r. ⌜ r ≡ b ⌝ }
-{
-    b as u32
-}
-
-fn index(b: u8) -> usize
-    ensures { λ r. ⌜ r ≡ b ⌝ }
-{
-    b as usize
-}
-
 // What a cell adds to its tally: one entry and its weight. A hole has no weight, and adds nothing.
 fn added(letter: usize, weight: u8) -> u32
     requires { ⌜ letter ≤ 2 ⌝ }
     ensures { λ r. ⌜ r ≡ weight + (1 - letter / 2) * unit ⌝ }
 {
-    wide(weight) + ((1 - letter / 2) as u32) * 262144
+    plain::weight(weight) + ((1 - letter / 2) as u32) * 262144
 }
 
-// The cells of one read, from column `from` on.
-fn tally_read(cells: &[u8], from: usize, side: usize, tally: &mut [u32])
-    requires { ⌜ (side ≤ 1) × (4 * (from + length (now cells) / 2) ≤ length (now tally)) ⌝ }
-    requires { ⌜ ((i : ℕ) → i < length (now cells) / 2 → badCell (cellAt 2 (now cells) i) ≡ false) ⌝ }
+// The cells of one read, from column `from` to the column before `to`.
+fn tally_read(cells: &[u8], size: usize, from: usize, to: usize, side: usize, tally: &mut [u32])
+    requires { ⌜ (size ≡ 2) × (from ≤ to) × (length (now cells) ≡ size * (to - from)) × (4 * to ≤ length (now tally)) × (side ≤ 1) ⌝ }
+    requires { ⌜ ((i : ℕ) → i < to - from → badCell (cellAt size (now cells) i) ≡ false) ⌝ }
     requires { ⌜ ((j : ℕ) (s : Side) (l : Letter) → getD (now tally) (place j s l) 0 ≤ 1000000000) ⌝ }
-    ensures { λ _. ⌜ ReadAdded (readFrom from (length (now (cells .entry)) / 2) (now (cells .entry))) (sideOf side) (now (tally .entry)) (now (tally .exit)) ⌝ }
+    ensures { λ _. ⌜ ReadAdded (readFrom size from (to - from) (now (cells .entry))) (sideOf side)
+        (now (tally .entry)) (now (tally .exit)) ⌝ }
 {
-    let c = cells.len() / 2;
+    let c = to - from;
     let mut at = 4 * from + 2 * side;
     let mut i: usize = 0;
     while i < c {
-        let letter = index(cells[2 * i]);
-        let v = added(letter, cells[2 * i + 1]);
+        let letter = plain::wide(cells[size * i]);
+        let v = added(letter, cells[size * i + 1]);
         let k = at + letter % 2;
         tally[k] = tally[k] + v;
         at += 4;
@@ -69,29 +59,22 @@ fn side_of(b: u8) -> usize
     if b == 1 { 1 } else { 0 }
 }
 
-// The cells of all reads, each on its side, into a tally of zeros.
-pub fn tally(
-    block: &[u8],
-    start: &[u32],
-    first: &[u16],
-    end: &[u16],
-    n: usize,
-    sides: &[u8],
-    tally: &mut [u32],
-)
-    requires { ⌜ (blockRefusal 1 (now block) .number ≡ 0) × Noted (now block) (now start) (now first) (now end) × (n ≡ readsField (now block)) ⌝ }
-    requires { ⌜ (n ≤ length (now start)) × (n ≤ length (now first)) × (n ≤ length (now end)) × (n ≤ length (now sides)) ⌝ }
-    requires { ⌜ (4 * columnsField (now block) ≤ length (now tally)) × ((k : ℕ) → getD (now tally) k 0 ≡ 0) ⌝ }
-    ensures { λ _. ⌜ Tallied (now (block .entry)) (now (sides .entry)) (now (tally .exit)) ⌝ }
+// The cells of all reads, each on its side. The tally is cleared first.
+pub fn tally(shape: layout::Shape, reads: &[u8], places: &[u32], sides: &[u8], tally: &mut [u32])
+    requires { ⌜ Lawful shape (now reads) × Noted shape (now reads) (now places) ⌝ }
+    requires { ⌜ (shape .n ≤ length (now sides)) × (4 * shape .m ≤ length (now tally)) ⌝ }
+    ensures { λ _. ⌜ Tallied (matrixIn shape (now (reads .entry))) (now (sides .entry)) (now (tally .exit)) ⌝ }
 {
+    plain::clear(tally, 0);
     let mut r: usize = 0;
-    while r < n {
-        let s = start[r] as usize;
-        let f = first[r] as usize;
-        let e = s + 2 * (end[r] as usize - f);
-        let cells = &block[s..e];
+    while r < shape.n {
+        let s = layout::start_of(places, r);
+        let f = layout::first_of(places, r);
+        let t = layout::end_of(places, r);
+        let e = s + shape.size * (t - f);
+        let cells = &reads[s..e];
         let side = side_of(sides[r]);
-        tally_read(cells, f, side, tally);
+        tally_read(cells, shape.size, f, t, side, tally);
         r += 1;
     }
 }
@@ -99,7 +82,8 @@ pub fn tally(
 // The four sums of column j: a side's W0 is the weight of its entries with letter 1, its W1 of those with letter 0.
 pub fn sums(tally: &[u32], j: usize) -> [[u32; 2]; 2]
     requires { ⌜ 4 * j + 4 ≤ length (now tally) ⌝ }
-    ensures { λ r. ⌜ ((b sides : List ℕ) → Tallied b sides (now (tally .entry)) → j < columnsField b → r ≡ arrayOf (W (matrixOf b) (divisionOf sides) j)) ⌝ }
+    ensures { λ r. ⌜ ((M : Matrix) (sides : List ℕ) → Tallied M sides (now (tally .entry)) → j < M .columns
+        → r ≡ arrayOf (W M (divisionOf sides) j)) ⌝ }
 {
     let k = 4 * j;
     [
@@ -132,7 +116,8 @@ fn against(n: [u32; 2], letter: u8) -> u32
 // The letters that are reported of column j, and the flips against its letters.
 pub fn letters_at(tally: &[u32], j: usize) -> Letters
     requires { ⌜ 4 * j + 4 ≤ length (now tally) ⌝ }
-    ensures { λ r. ⌜ ((b sides : List ℕ) → Tallied b sides (now (tally .entry)) → j < columnsField b → Lettered (matrixOf b) (divisionOf sides) j r) ⌝ }
+    ensures { λ r. ⌜ ((M : Matrix) (sides : List ℕ) → Tallied M sides (now (tally .entry)) → j < M .columns
+        → Lettered M (divisionOf sides) j r) ⌝ }
 {
     let s = sums(tally, j);
     let a = letter(s[0][0], s[0][1]);

@@ -1,27 +1,61 @@
--- A refusal of the block is the call's, and how much room a column of so many reads takes.
-use Prim.Native.Nat.{ℕ, zero, suc, _≤_, _<_, min}
-use mathlib.Core.Path.{_≡_, refl}
+-- The block's checks before the solver and the judge, and how much room a column of so many reads takes.
+use Prim.Native.Nat.{ℕ, _-_, _≤_, _<_, min}
+use mathlib.Core.Path.{_≡_, sym, ap, _∙_}
 use mathlib.Core.List.{List}
 use native.Mathlib.Omega.{arith}
-use lib.ListN.{getD, replicate}
+use lib.ListN.{length, take, drop}
 use lib.Pow.{pow-mono}
+use Rattle.meaning.specs.Block.{Matrix}
 use Rattle.meaning.specs.Active.{used}
-use Rattle.meaning.specs.Refusals.{blockRefusal}
-use Rattle.meaning.specs.Call.{call}
-use Rattle.solve.proofs.Calls.{block-refusal, refusal-call}
+use Rattle.meaning.specs.Letters.{general}
+use Rattle.meaning.specs.Refusals.{Numbers, blockRefusal}
+use Rattle.meaning.specs.Call.{refuses, callOn, call}
+use Rattle.meaning.specs.Judge.{rejects, judgingOn, judging}
+use Rattle.meaning.proofs.Call.{call-on, call-block}
+use Rattle.meaning.proofs.Judging.{judging-on, judging-block}
+use Rattle.layout.specs.declared.Shape.{Shape}
+use Rattle.layout.specs.Reads.{matrixIn}
+use Rattle.block.specs.Answers.{Passes}
+use Rattle.block.proofs.BlockChecks.{part-is}
 
+-- numbers other than 0
+refused-number : (x : Numbers) (n s : ℕ) → record { number = n; second = s } ≡ x → 0 < n → x .number ≡ 0 → ⊥
+refused-number x n s e l z = let q : n ≡ 0 = ap (λ (y : Numbers). y .number) e ∙ z in omega arith
+
+-- a refusal of the block is the call's, and the judging's
 pub refused-call : (b work out : List ℕ) (n s : ℕ) → record { number = n; second = s } ≡ blockRefusal 1 b → 0 < n
     → record { number = n; second = s; work = work; out = out } ≡ call b work out
-refused-call b work out n s e l = refusal-call b work out n s (block-refusal b _ _ n s e l) l
+unfolding call refuses
+refused-call b work out n s e l =
+    ap (λ (x : Numbers). refuses x work out) e ∙ sym (call-block general 1 b work out (refused-number (blockRefusal 1 b) n s e l))
 
-pub few-reads-room : (n : ℕ) → n ≤ 7 → used (min n 12) ≤ 64
-few-reads-room n l = pow-mono {j = 6} (omega arith)
+pub refused-judging : (b a work : List ℕ) (n s : ℕ) → record { number = n; second = s } ≡ blockRefusal 1 b → 0 < n
+    → record { number = n; second = s; work = work } ≡ judging b a work
+unfolding judging rejects
+refused-judging b a work n s e l =
+    ap (λ (x : Numbers). rejects x work) e ∙ sym (judging-block 1 b a work (refused-number (blockRefusal 1 b) n s e l))
 
-pub any-reads-room : (n : ℕ) → used (min n 12) ≤ 2048
-any-reads-room n = pow-mono {j = 11} (omega arith)
+-- behind its nine bytes a block that passes is its reads
+module _ (b : List ℕ) (s : Shape) (p : Passes b s) where
+  abbrev pub lent : List ℕ
+  lent = take (length b - 9) (drop 9 b)
 
--- an array of zeros
-pub zeros : (n k : ℕ) → getD (replicate {A = ℕ} n 0) k 0 ≡ 0
-zeros zero k = refl
-zeros (suc n) zero = refl
-zeros (suc n) (suc k) = zeros n k
+  pub passed-call : (work out : List ℕ) → callOn general (matrixIn s lent) work out ≡ call b work out
+  unfolding call
+  passed-call work out =
+      ap (λ (r : List ℕ). callOn general (matrixIn s r) work out) (part-is b)
+      ∙ ap (λ (M : Matrix). callOn general M work out) (p .matrix-is)
+      ∙ sym (call-on general 1 b work out (p .formed))
+
+  pub passed-judging : (a work : List ℕ) → judgingOn (matrixIn s lent) a work ≡ judging b a work
+  unfolding judging
+  passed-judging a work =
+      ap (λ (r : List ℕ). judgingOn (matrixIn s r) a work) (part-is b)
+      ∙ ap (λ (M : Matrix). judgingOn M a work) (p .matrix-is)
+      ∙ sym (judging-on 1 b a work (p .formed))
+
+pub few-reads-room : (n : ℕ) → n ≤ 7 → used (min n 12) ≤ 128
+few-reads-room n l = pow-mono {j = 7} (omega arith)
+
+pub any-reads-room : (n : ℕ) → used (min n 12) ≤ 4096
+any-reads-room n = pow-mono {j = 12} (omega arith)

@@ -1,10 +1,10 @@
 // The public calls. None asks anything of its caller: every block of bytes, with rooms of every size, gets an answer or a refusal.
 ghost use mathlib.Core.Path.{_≡_};
 ghost use Prim.Native.Nat.{_≤_};
-ghost use Rattle.meaning.specs.Block.{columnsField, readsField};
-ghost use Rattle.meaning.specs.Refusals.{blockRefusal};
-ghost use Rattle.meaning.specs.Call.{call};
-ghost use Rattle.meaning.specs.Judge.{judging};
+ghost use Rattle.meaning.specs.Letters.{general};
+ghost use Rattle.meaning.specs.Call.{callOn, call};
+ghost use Rattle.meaning.specs.Judge.{judgingOn, judging};
+ghost use Rattle.layout.specs.Reads.{matrixIn, Lawful};
 ghost use Rattle.solve.specs.Outcomes.{outcomeNumber, outcomeSecond, resultOf};
 ghost use Rattle.verdict.specs.Judgements.{judgementNumber, judgementSecond, judgedOf};
 
@@ -38,79 +38,62 @@ fn given(o: solve::Outcome) -> Numbers
     }
 }
 
-// Room to work in for a block of at most 32 columns and 7 reads: setting up more would take longer than solving it.
-fn small(block: &[u8], m: usize, n: usize, work: &mut [u32], out: &mut [u8]) -> solve::Outcome
-    requires { ⌜ (blockRefusal 1 (now block) .number ≡ 0) × (m ≡ columnsField (now block)) × (n ≡ readsField (now block)) ⌝ }
-    requires { ⌜ (m ≤ 32) × (n ≤ 7) ⌝ }
-    ensures { λ r. ⌜ resultOf r (now (work .exit)) (now (out .exit)) ≡ call (now (block .entry)) (now (work .entry)) (now (out .entry)) ⌝ }
+// Room to work in for at most 32 columns and 7 reads: setting up more would take longer than solving them.
+fn small(shape: layout::Shape, reads: &[u8], work: &mut [u32], out: &mut [u8]) -> solve::Outcome
+    requires { ⌜ Lawful shape (now reads) × (shape .m ≤ 32) × (shape .n ≤ 7) ⌝ }
+    ensures { λ r. ⌜ resultOf r (now (work .exit)) (now (out .exit))
+        ≡ callOn general (matrixIn shape (now (reads .entry))) (now (work .entry)) (now (out .entry)) ⌝ }
 {
-    let mut start = [0u32; 7];
-    let mut first = [0u16; 7];
-    let mut end = [0u16; 7];
-    let mut count = [0u16; 32];
-    let mut lists = [0u16; 384];
-    let mut taken = [0u32; 64];
-    let mut tally = [0u32; 128];
+    let mut places = [0u32; 21];
+    let mut lists = [0u16; 416];
+    let mut scratch = [0u32; 128];
     solve::solve(
-        block,
-        m,
-        n,
+        shape,
+        reads,
         work,
         out,
-        &mut start,
-        &mut first,
-        &mut end,
-        &mut count,
+        &mut places,
         &mut lists,
-        &mut taken,
-        &mut tally,
+        &mut scratch,
     )
 }
 
 // Room to work in for every block.
-fn large(block: &[u8], m: usize, n: usize, work: &mut [u32], out: &mut [u8]) -> solve::Outcome
-    requires { ⌜ (blockRefusal 1 (now block) .number ≡ 0) × (m ≡ columnsField (now block)) × (n ≡ readsField (now block)) ⌝ }
-    requires { ⌜ (m ≤ 1024) × (n ≤ 1024) ⌝ }
-    ensures { λ r. ⌜ resultOf r (now (work .exit)) (now (out .exit)) ≡ call (now (block .entry)) (now (work .entry)) (now (out .entry)) ⌝ }
+fn large(shape: layout::Shape, reads: &[u8], work: &mut [u32], out: &mut [u8]) -> solve::Outcome
+    requires { ⌜ Lawful shape (now reads) ⌝ }
+    ensures { λ r. ⌜ resultOf r (now (work .exit)) (now (out .exit))
+        ≡ callOn general (matrixIn shape (now (reads .entry))) (now (work .entry)) (now (out .entry)) ⌝ }
 {
-    let mut start = [0u32; 1024];
-    let mut first = [0u16; 1024];
-    let mut end = [0u16; 1024];
-    let mut count = [0u16; 1024];
-    let mut lists = [0u16; 12288];
-    let mut taken = [0u32; 2048];
-    let mut tally = [0u32; 4096];
+    let mut places = [0u32; 3072];
+    let mut lists = [0u16; 13312];
+    let mut scratch = [0u32; 4096];
     solve::solve(
-        block,
-        m,
-        n,
+        shape,
+        reads,
         work,
         out,
-        &mut start,
-        &mut first,
-        &mut end,
-        &mut count,
+        &mut places,
         &mut lists,
-        &mut taken,
-        &mut tally,
+        &mut scratch,
     )
 }
 
-// The solver with as much room as the block needs.
-fn solved(block: &[u8], m: usize, n: usize, work: &mut [u32], out: &mut [u8]) -> solve::Outcome
-    requires { ⌜ (blockRefusal 1 (now block) .number ≡ 0) × (m ≡ columnsField (now block)) × (n ≡ readsField (now block)) ⌝ }
-    requires { ⌜ (m ≤ 1024) × (n ≤ 1024) ⌝ }
-    ensures { λ r. ⌜ resultOf r (now (work .exit)) (now (out .exit)) ≡ call (now (block .entry)) (now (work .entry)) (now (out .entry)) ⌝ }
+// The solver with as much room as the reads need.
+fn solved(shape: layout::Shape, reads: &[u8], work: &mut [u32], out: &mut [u8]) -> solve::Outcome
+    requires { ⌜ Lawful shape (now reads) ⌝ }
+    ensures { λ r. ⌜ resultOf r (now (work .exit)) (now (out .exit))
+        ≡ callOn general (matrixIn shape (now (reads .entry))) (now (work .entry)) (now (out .entry)) ⌝ }
 {
-    if m <= 32 {
-        if n <= 7 {
-            return small(block, m, n, work, out);
+    if shape.m <= 32 {
+        if shape.n <= 7 {
+            return small(shape, reads, work, out);
         }
     }
-    large(block, m, n, work, out)
+    large(shape, reads, work, out)
 }
 
-// Phases a fragment block: the least cost, the table in the work room and the answer block in the output, or a refusal that leaves both as they were.
+// Phases a fragment block: the least cost, the table in the work room and the answer block in the output, or a refusal that leaves
+// both as they were.
 pub fn phase(block: &[u8], work: &mut [u32], out: &mut [u8]) -> Numbers
     ensures { λ r. ⌜ r .number ≡ call (now (block .entry)) (now (work .entry)) (now (out .entry)) .number ⌝ }
     ensures { λ r. ⌜ r .second ≡ call (now (block .entry)) (now (work .entry)) (now (out .entry)) .second ⌝ }
@@ -123,8 +106,8 @@ pub fn phase(block: &[u8], work: &mut [u32], out: &mut [u8]) -> Numbers
             number: number,
             second: second,
         },
-        block::Verdict::Passed { m, n } => {
-            let o = solved(block, m, n, work, out);
+        block::Verdict::Passed(shape) => {
+            let o = solved(shape, &block[9..], work, out);
             given(o)
         }
     }
@@ -178,42 +161,33 @@ fn judged(j: verdict::Judgement) -> Numbers
 
 // Room to work in for judging an answer to any block.
 fn judgement(
-    block: &[u8],
-    m: usize,
-    n: usize,
+    shape: layout::Shape,
+    reads: &[u8],
     answer: &[u8],
     work: &mut [u32],
 ) -> verdict::Judgement
-    requires { ⌜ (blockRefusal 1 (now block) .number ≡ 0) × (m ≡ columnsField (now block)) × (n ≡ readsField (now block)) ⌝ }
-    requires { ⌜ (m ≤ 1024) × (n ≤ 1024) ⌝ }
-    ensures { λ r. ⌜ judgedOf r (now (work .exit)) ≡ judging (now (block .entry)) (now (answer .entry)) (now (work .entry)) ⌝ }
+    requires { ⌜ Lawful shape (now reads) ⌝ }
+    ensures { λ r. ⌜ judgedOf r (now (work .exit))
+        ≡ judgingOn (matrixIn shape (now (reads .entry))) (now (answer .entry)) (now (work .entry)) ⌝ }
 {
-    let mut start = [0u32; 1024];
-    let mut first = [0u16; 1024];
-    let mut end = [0u16; 1024];
-    let mut count = [0u16; 1024];
-    let mut lists = [0u16; 12288];
-    let mut taken = [0u32; 2048];
-    let mut tally = [0u32; 4096];
+    let mut places = [0u32; 3072];
+    let mut lists = [0u16; 13312];
+    let mut scratch = [0u32; 4096];
     let mut sides = [0u8; 1024];
     verdict::judge(
-        block,
-        m,
-        n,
+        shape,
+        reads,
         answer,
         work,
-        &mut start,
-        &mut first,
-        &mut end,
-        &mut count,
+        &mut places,
         &mut lists,
-        &mut taken,
-        &mut tally,
+        &mut scratch,
         &mut sides,
     )
 }
 
-// Judges a builder's answer to a fragment block: a verdict, 50 to 57, with the table in the work room, or a refusal of the block that leaves it as it was.
+// Judges a builder's answer to a fragment block: a verdict, 50 to 57, with the table in the work room, or a refusal of the block that
+// leaves it as it was.
 pub fn judge(block: &[u8], answer: &[u8], work: &mut [u32]) -> Numbers
     ensures { λ r. ⌜ r .number ≡ judging (now (block .entry)) (now (answer .entry)) (now (work .entry)) .number ⌝ }
     ensures { λ r. ⌜ r .second ≡ judging (now (block .entry)) (now (answer .entry)) (now (work .entry)) .second ⌝ }
@@ -222,8 +196,8 @@ pub fn judge(block: &[u8], answer: &[u8], work: &mut [u32]) -> Numbers
     let v = block::checked(block);
     match v {
         block::Verdict::Refused { number, second } => both(number, second),
-        block::Verdict::Passed { m, n } => {
-            let j = judgement(block, m, n, answer, work);
+        block::Verdict::Passed(shape) => {
+            let j = judgement(shape, &block[9..], answer, work);
             judged(j)
         }
     }

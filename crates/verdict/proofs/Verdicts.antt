@@ -1,72 +1,67 @@
--- The verdicts in their order, as the branches meet them. Assumes nothing.
+-- The verdicts in their order, as the branches meet them.
 use Prim.Native.Nat.{ℕ, _≤_, _<_}
 use mathlib.Core.Bool.{Bool, true, false, not, _||_}
 use mathlib.Core.List.{List}
-use mathlib.Core.Path.{_≡_, sym, ap₂, _∙_}
+use mathlib.Core.Path.{_≡_, sym, ap, ap₂, _∙_}
 use lib.Dec.{ltb, eqb}
 use borrow.Author.Tests.{lt-ltb, le-ltb}
-use Rattle.meaning.specs.Block.{Matrix, columnsField, readsField, matrixOf}
+use Rattle.meaning.specs.Block.{Matrix}
+use Rattle.meaning.specs.Active.{count}
 use Rattle.meaning.specs.Charge.{charge, leastCost}
-use Rattle.meaning.specs.Letters.{disagreement}
 use Rattle.meaning.specs.Refusals.{refuse, orElse}
-use Rattle.meaning.specs.Judge.{statedCost, statedReads, statedColumns, statedDivision, statedHaplotypes, malformed, otherCounts, unknownMark, falseDash, wrongCost, notLeast, otherAnswer, verdict}
-use Rattle.verdict.specs.Stages.{Counted, Marked, Least}
+use Rattle.meaning.specs.Judge.{statedCost, statedReads, statedColumns, malformed, otherCounts, unknownMark, falseDash, wrongCost, notLeast, otherAnswer, verdict}
+use Rattle.verdict.specs.Stages.{Marked, Least}
 
 -- what the code compares
-pub counts-told : (b a : List ℕ) (m n : ℕ) → m ≡ columnsField b → n ≡ readsField b → (not (eqb (statedReads a) n) || not (eqb (statedColumns a) m)) ≡ otherCounts b a
+pub counts-told : (M : Matrix) (a : List ℕ) (n : ℕ) → count M ≡ n → (not (eqb (statedReads a) n) || not (eqb (statedColumns a) (M .columns))) ≡ otherCounts M a
 unfolding otherCounts
-counts-told b a m n p q = ap₂ (λ (x y : ℕ). not (eqb (statedReads a) x) || not (eqb (statedColumns a) y)) q p
+counts-told M a n e = ap (λ (x : ℕ). not (eqb (statedReads a) x) || not (eqb (statedColumns a) (M .columns))) (sym e)
 
-pub cost-told : (M : Matrix) (a : List ℕ) (x y : ℕ) → x ≡ statedCost a → y ≡ disagreement M (statedDivision a) (statedHaplotypes a) → not (eqb x y) ≡ wrongCost M a
-unfolding wrongCost
-cost-told M a x y p q = ap₂ (λ (u v : ℕ). not (eqb u v)) p q
-
--- each verdict, where those before it do not apply; and what passes two of them
-module _ (b a : List ℕ) where
+-- each verdict, where those before it do not apply
+module _ (M : Matrix) (a : List ℕ) where
   module _ (x : Bool) (m50 : x ≡ malformed a) where
-    pub gives-50 : x ≡ true → record { number = 50; second = 0 } ≡ verdict b a
+    pub gives-50 : x ≡ true → record { number = 50; second = 0 } ≡ verdict M a
     unfolding verdict orElse refuse
     gives-50 h = sym (simp (← m50, h))
 
-    pub gives-51 : x ≡ false → (y : Bool) → y ≡ otherCounts b a → y ≡ true → record { number = 51; second = 0 } ≡ verdict b a
+    module _ (p : x ≡ false) (y : Bool) (m51 : y ≡ otherCounts M a) where
+      pub gives-51 : y ≡ true → record { number = 51; second = 0 } ≡ verdict M a
+      unfolding verdict orElse refuse
+      gives-51 h = sym (simp (← m50, p, ← m51, h))
+
+      module _ (q : y ≡ false) (z : Bool) (m52 : z ≡ unknownMark a) where
+        pub gives-52 : z ≡ true → record { number = 52; second = 0 } ≡ verdict M a
+        unfolding verdict orElse refuse
+        gives-52 h = sym (simp (← m50, p, ← m51, q, ← m52, h))
+
+        pub is-marked : z ≡ false → Marked M a
+        is-marked h = record { formed = sym m50 ∙ p; counted = sym m51 ∙ q; known = sym m52 ∙ h }
+
+  module _ (s : Marked M a) (x : Bool) (m53 : x ≡ falseDash M a) where
+    pub gives-53 : x ≡ true → record { number = 53; second = 0 } ≡ verdict M a
     unfolding verdict orElse refuse
-    gives-51 p y e h = sym (simp (← m50, p, ← e, h))
+    gives-53 h = sym (simp (s .formed, s .counted, s .known, ← m53, h))
 
-    pub is-counted : x ≡ false → (y : Bool) → y ≡ otherCounts b a → y ≡ false → Counted b a
-    is-counted p y e h = record { formed = sym m50 ∙ p; counted = sym e ∙ h }
+    module _ (p : x ≡ false) (y : Bool) (m54 : y ≡ wrongCost M a) where
+      pub gives-54 : y ≡ true → record { number = 54; second = 0 } ≡ verdict M a
+      unfolding verdict orElse refuse
+      gives-54 h = sym (simp (s .formed, s .counted, s .known, ← m53, p, ← m54, h))
 
-  module _ (s : Counted b a) (x : Bool) (m52 : x ≡ unknownMark a) where
-    pub gives-52 : x ≡ true → record { number = 52; second = 0 } ≡ verdict b a
+      -- with the stated cost and the least
+      module _ (q : y ≡ false) (stated least : ℕ) (e : stated ≡ statedCost a) (l : least ≡ leastCost charge M) where
+        pub gives-55 : least < stated → record { number = 55; second = least } ≡ verdict M a
+        unfolding verdict orElse refuse notLeast
+        gives-55 h = sym (simp (s .formed, s .counted, s .known, ← m53, p, ← m54, q, ← e, ← l, lt-ltb least stated h))
+
+        pub is-least : stated ≤ least → Least M a
+        unfolding notLeast
+        is-least h = record { marked = s; dashed = sym m53 ∙ p; weighed = sym m54 ∙ q; least = ap₂ ltb (sym l) (sym e) ∙ le-ltb least stated h }
+
+  module _ (s : Least M a) (x : Bool) (m56 : x ≡ otherAnswer M a) where
+    pub gives-56 : x ≡ true → record { number = 56; second = 0 } ≡ verdict M a
     unfolding verdict orElse refuse
-    gives-52 h = sym (simp (s .formed, s .counted, ← m52, h))
+    gives-56 h = sym (simp (s .marked .formed, s .marked .counted, s .marked .known, s .dashed, s .weighed, s .least, ← m56, h))
 
-    pub gives-53 : x ≡ false → (y : Bool) → y ≡ falseDash (matrixOf b) a → y ≡ true → record { number = 53; second = 0 } ≡ verdict b a
+    pub gives-57 : x ≡ false → record { number = 57; second = 0 } ≡ verdict M a
     unfolding verdict orElse refuse
-    gives-53 p y e h = sym (simp (s .formed, s .counted, ← m52, p, ← e, h))
-
-    pub is-marked : x ≡ false → (y : Bool) → y ≡ falseDash (matrixOf b) a → y ≡ false → Marked b a
-    is-marked p y e h = record { before = s; known = sym m52 ∙ p; dashed = sym e ∙ h }
-
-  module _ (s : Marked b a) (x : Bool) (m54 : x ≡ wrongCost (matrixOf b) a) where
-    pub gives-54 : x ≡ true → record { number = 54; second = 0 } ≡ verdict b a
-    unfolding verdict orElse refuse
-    gives-54 h = sym (simp (s .before .formed, s .before .counted, s .known, s .dashed, ← m54, h))
-
-    -- with the stated cost and the least
-    module _ (p : x ≡ false) (stated least : ℕ) (e : stated ≡ statedCost a) (l : least ≡ leastCost charge (matrixOf b)) where
-      pub gives-55 : least < stated → record { number = 55; second = least } ≡ verdict b a
-      unfolding verdict orElse refuse notLeast
-      gives-55 h = sym (simp (s .before .formed, s .before .counted, s .known, s .dashed, ← m54, p, ← e, ← l, lt-ltb least stated h))
-
-      pub is-least : stated ≤ least → Least b a
-      unfolding notLeast
-      is-least h = record { before = s; weighed = sym m54 ∙ p; least = ap₂ ltb (sym l) (sym e) ∙ le-ltb least stated h }
-
-  module _ (s : Least b a) (x : Bool) (m56 : x ≡ otherAnswer (matrixOf b) a) where
-    pub gives-56 : x ≡ true → record { number = 56; second = 0 } ≡ verdict b a
-    unfolding verdict orElse refuse
-    gives-56 h = sym (simp (s .before .before .formed, s .before .before .counted, s .before .known, s .before .dashed, s .weighed, s .least, ← m56, h))
-
-    pub gives-57 : x ≡ false → record { number = 57; second = 0 } ≡ verdict b a
-    unfolding verdict orElse refuse
-    gives-57 h = sym (simp (s .before .before .formed, s .before .before .counted, s .before .known, s .before .dashed, s .weighed, s .least, ← m56, h))
+    gives-57 h = sym (simp (s .marked .formed, s .marked .counted, s .marked .known, s .dashed, s .weighed, s .least, ← m56, h))

@@ -1,3 +1,2 @@
 pub mod Judgements
-pub mod Stated
 pub mod Stages

@@ -1,39 +1,33 @@
 -- How far a judging has come: what is there to judge by, and which verdicts do not apply.
-use Prim.Native.Nat.{ℕ, _*_, _≤_, _<_}
+use Prim.Native.Nat.{ℕ, _*_, _≤_}
 use mathlib.Core.Path.{_≡_}
 use mathlib.Core.Bool.{false}
 use mathlib.Core.List.{List}
 use lib.ListN.{length}
-use Rattle.meaning.specs.Block.{columnsField, readsField, matrixOf}
+use Rattle.meaning.specs.Block.{Matrix}
 use Rattle.meaning.specs.Active.{entries}
-use Rattle.meaning.specs.Charge.{charge}
-use Rattle.meaning.specs.Table.{column}
-use Rattle.meaning.specs.Rule.{columnOf}
 use Rattle.meaning.specs.Judge.{malformed, otherCounts, unknownMark, falseDash, wrongCost, notLeast}
-use Rattle.table.specs.Ready.{Ready}
+use Rattle.layout.specs.declared.Shape.{Shape}
+use Rattle.layout.specs.Reads.{matrixIn}
+use Rattle.layout.specs.Ready.{Ready}
+use Rattle.solve.specs.Output.{RightColumns}
 
--- a block that is ready, its m, n and T, and its table in the work room
-pub record Filled (b start first after count lists : List ℕ) (m n t : ℕ) (work : List ℕ) : Type 0 where
-  pub ready : Ready b start first after count lists
-  pub columns : m ≡ columnsField b
-  pub reads : n ≡ readsField b
-  pub entries-are : t ≡ entries (matrixOf b)
-  pub room : m * t ≤ length work
-  pub filled : (j : ℕ) → j < columnsField b → columnOf (matrixOf b) work j ≡ column charge (matrixOf b) j
+-- reads that are ready, their T, and their table in the work room
+pub record Filled (s : Shape) (reads places lists : List ℕ) (t : ℕ) (work : List ℕ) : Type 0 where
+  pub ready : Ready s reads places lists
+  pub entries-are : t ≡ entries (matrixIn s reads)
+  pub room : s .m * t ≤ length work
+  pub right : RightColumns (matrixIn s reads) work
 
--- neither 50 nor 51
-pub record Counted (b a : List ℕ) : Type 0 where
+-- none of 50 to 52
+pub record Marked (M : Matrix) (a : List ℕ) : Type 0 where
   pub formed : malformed a ≡ false
-  pub counted : otherCounts b a ≡ false
-
--- nor 52, nor 53
-pub record Marked (b a : List ℕ) : Type 0 where
-  pub before : Counted b a
+  pub counted : otherCounts M a ≡ false
   pub known : unknownMark a ≡ false
-  pub dashed : falseDash (matrixOf b) a ≡ false
 
--- nor 54, nor 55
-pub record Least (b a : List ℕ) : Type 0 where
-  pub before : Marked b a
-  pub weighed : wrongCost (matrixOf b) a ≡ false
-  pub least : notLeast (matrixOf b) a ≡ false
+-- nor 53 to 55
+pub record Least (M : Matrix) (a : List ℕ) : Type 0 where
+  pub marked : Marked M a
+  pub dashed : falseDash M a ≡ false
+  pub weighed : wrongCost M a ≡ false
+  pub least : notLeast M a ≡ false

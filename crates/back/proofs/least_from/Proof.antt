@@ -7,19 +7,19 @@ use Rattle.back.proofs.least_from.Statement.{statement}
 use Rattle.back.proofs.least_from.Tie as tie
 
 abbrev Inv-loop : tie.InvT-loop
-Inv-loop col from step least₀ k₀ least k = Seen col from step least k
+Inv-loop col from step lowest₀ k₀ lowest k = Seen col from step lowest k
 
 abbrev μ-loop : tie.MeasureT-loop
-μ-loop col from step least₀ k₀ least k = length col - k
+μ-loop col from step lowest₀ k₀ lowest k = length col - k
 
 whole : (c : tie.Start Inv-loop μ-loop) → Whole (c .args .col .now) (c .args .from) (c .args .step)
 whole c = record { positive = c .pre .0 .0; start = c .pre .0 .1; rows = c .pre .1 .0; some = c .pre .1 .1 }
 
-mul-least : tie.Need-mul-least Inv-loop μ-loop
-mul-least c = omega (arith, one-row _ _ _ (whole (c .before)) .1)
+mul-lowest : tie.Need-mul-lowest Inv-loop μ-loop
+mul-lowest c = omega (arith, one-row _ _ _ (whole (c .before)) .1)
 
-shared-slice-read-least : tie.Need-shared-slice-read-least Inv-loop μ-loop
-shared-slice-read-least c = omega (arith, one-row _ _ _ (whole (c .before .before)) .1)
+shared-slice-read-lowest : tie.Need-shared-slice-read-lowest Inv-loop μ-loop
+shared-slice-read-lowest c = omega (arith, one-row _ _ _ (whole (c .before .before)) .1)
 
 add-k : tie.Need-add-k Inv-loop μ-loop
 add-k c = omega (arith, one-row _ _ _ (whole (c .before .before)) .1)
@@ -27,14 +27,14 @@ add-k c = omega (arith, one-row _ _ _ (whole (c .before .before)) .1)
 loop-holds : tie.Need-loop-holds Inv-loop μ-loop
 loop-holds c = seen-one _ _ _ (whole (c .before .before))
 
-mul-lesser : tie.Need-mul-lesser Inv-loop μ-loop
-mul-lesser c = search needs
+mul-least : tie.Need-mul-least Inv-loop μ-loop
+mul-least c = search needs
 
-shared-slice-read-lesser : tie.Need-shared-slice-read-lesser Inv-loop μ-loop
-shared-slice-read-lesser c = search needs
+shared-slice-read-least : tie.Need-shared-slice-read-least Inv-loop μ-loop
+shared-slice-read-least c = search needs
 
-lesser-requires : tie.Need-lesser-requires Inv-loop μ-loop
-lesser-requires c κs = search needs
+least-requires : tie.Need-least-requires Inv-loop μ-loop
+least-requires c κs = search needs
 
 add-k-2 : tie.Need-add-k-2 Inv-loop μ-loop
 add-k-2 c = omega (arith, one-row _ _ _ (whole (c .before .before .before .before .before .before)) .1)
@@ -46,11 +46,11 @@ loop-again : tie.Need-loop-again Inv-loop μ-loop
 loop-again c =
     let a = c .before .before .before .before .before .before .args in
     let l = c .before .before .before .loop in
-    let s = seen-more (a .col .now) (a .from) (a .step) (whole (c .before .before .before .before .before .before)) (l .least) (l .k) (omega arith) (l .inv) in
-    rw (c .lesser .ensures) s
+    let s = seen-more (a .col .now) (a .from) (a .step) (whole (c .before .before .before .before .before .before)) (l .lowest) (l .k) (omega arith) (l .inv) in
+    rw (c .least .ensures) s
 
 returns : tie.Need-returns Inv-loop μ-loop
-returns c = let a = c .before .before .before .before .args in let l = c .before .loop in seen-all (a .col .now) (a .from) (a .step) (whole (c .before .before .before .before)) (l .least) (l .k) (omega arith) (l .inv)
+returns c = let a = c .before .before .before .before .args in let l = c .before .loop in seen-all (a .col .now) (a .from) (a .step) (whole (c .before .before .before .before)) (l .lowest) (l .k) (omega arith) (l .inv)
 
 pub least-from-spec : {M : Type 1} → statement M
 least-from-spec =
@@ -58,13 +58,13 @@ least-from-spec =
     (tie.spec
     Inv-loop
     μ-loop
-    mul-least
-    shared-slice-read-least
+    mul-lowest
+    shared-slice-read-lowest
     add-k
     loop-holds
-    mul-lesser
-    shared-slice-read-lesser
-    lesser-requires
+    mul-least
+    shared-slice-read-least
+    least-requires
     add-k-2
     loop-less
     loop-again

@@ -29,8 +29,8 @@ head-small c = settling-head _ _ _ _ (c .before .loop .sides) (c .before .loop .
 side-small : (c : tie.After-first-side Inv-loop μ-loop) → c .first-side .result ≤ 1
 side-small c = let l = c .before .before .loop in bit-le (c .first-side .result) (nextSide (c .before .before .before .before .before .before .before .before .before .before .args .col .now) (l .low) (c .before .before .before .before .before .side-of .result) (l .i)) (c .first-side .ensures)
 
-in-sides : (c : tie.After-wide Inv-loop μ-loop) → c .wide .result < length (c .before .before .before .before .loop .sides)
-in-sides c = omega (arith, c .before .before .before .before .before .before .before .before .before .before .before .before .pre .1 .0 (c .before .before .before .before .loop .i) (c .before .before .before .loop-test .taken), c .wide .ensures, c .before .before .before .before .loop .inv .2)
+in-sides : (c : tie.After-index Inv-loop μ-loop) → c .index .result < length (c .before .before .before .before .loop .sides)
+in-sides c = omega (arith, c .before .before .before .before .before .before .before .before .before .before .before .before .pre .1 .0 (c .before .before .before .before .loop .i) (c .before .before .before .loop-test .taken), c .index .ensures .0, c .before .before .before .before .loop .inv .2)
 
 side-of-requires : tie.Need-side-of-requires Inv-loop μ-loop
 side-of-requires c κs = ((omega arith, c .before .before .before .before .pre .1 .0 0 (omega arith)), c .before .before .before .before .pre .1 .1 .1)
@@ -49,14 +49,14 @@ first-side-requires c κs =
     let w = classes-whole (c .before .loop .i) (a .p) (length (a .col .now)) (c .loop-test .taken) (c .before .before .before .before .before .before .before .before .before .pre .1 .1 .0) in
     ((omega arith, omega arith, low-small c, head-small c), (w .0, w .1))
 
-mul-wide : tie.Need-mul-wide Inv-loop μ-loop
-mul-wide c = search needs
+mul-index : tie.Need-mul-index Inv-loop μ-loop
+mul-index c = search needs
 
-shared-slice-read-wide : tie.Need-shared-slice-read-wide Inv-loop μ-loop
-shared-slice-read-wide c = search needs
+shared-slice-read-index : tie.Need-shared-slice-read-index Inv-loop μ-loop
+shared-slice-read-index c = search needs
 
-wide-requires : tie.Need-wide-requires Inv-loop μ-loop
-wide-requires c κs = search needs
+index-requires : tie.Need-index-requires Inv-loop μ-loop
+index-requires c κs = search needs
 
 cast-sides : tie.Need-cast-sides Inv-loop μ-loop
 cast-sides c = omega (arith, side-small (c .before .before))
@@ -85,8 +85,8 @@ loop-again c =
       omega arith,
       simp length-set (l .inv .2),
       settling-more (a .col .now) (take (a .p) (a .list .now)) (a .s) (a .sides .now) (c .before .before .before .before .before .before .before .before .before .before .before .before .before .pre .0 .4) (c .before .before .before .before .before .before .before .before .before .before .before .before .before .pre .1 .1 .0 ∙ ap used (sym n)) (l .sides) (l .low)
-          (c .before .before .before .before .before .before .before .before .side-of .result) (l .i) (omega arith) (omega arith) (l .inv .3) (c .before .wide .result) (c .before .before .before .first-side .result) (c .class .result)
-          (c .before .wide .ensures ∙ sym (getD-take (a .p) (a .list .now) (l .i) 0 (c .before .before .before .before .loop-test .taken))) (in-sides (c .before)) (c .before .before .before .first-side .ensures) (c .class .ensures .0),
+          (c .before .before .before .before .before .before .before .before .side-of .result) (l .i) (omega arith) (omega arith) (l .inv .3) (c .before .index .result) (c .before .before .before .first-side .result) (c .class .result)
+          (c .before .index .ensures .0 ∙ sym (getD-take (a .p) (a .list .now) (l .i) 0 (c .before .before .before .before .loop-test .taken))) (in-sides (c .before)) (c .before .before .before .first-side .ensures) (c .class .ensures .0),
     )
 
 same-length : tie.Need-same-length Inv-loop μ-loop
@@ -110,9 +110,9 @@ settle-from-spec =
     fixed-requires
     loop-holds
     first-side-requires
-    mul-wide
-    shared-slice-read-wide
-    wide-requires
+    mul-index
+    shared-slice-read-index
+    index-requires
     cast-sides
     slice-write-sides
     class-requires

@@ -1,9 +1,9 @@
--- `check_header` meets its contract: each return is a law of HeaderChecks. Assumes nothing.
+-- `check_header` meets its contract: each return is a law of HeaderChecks.
 use borrow.Author.Needs.{needs}
 use native.Mathlib.Omega.{arith}
 use mathlib.Core.List.{List}
-use mathlib.Core.Path.{_≡_, sym, _∙_}
-use Prim.Native.Nat.{ℕ, _-_, _≤_}
+use mathlib.Core.Path.{_≡_, refl, sym, ap, _∙_}
+use Prim.Native.Nat.{ℕ, _+_, _-_, _≤_}
 use lib.ListN.{length}
 use Rattle.meaning.specs.Block.{versionField, sizeField}
 use Rattle.block.specs.Answers.{Sized}
@@ -41,7 +41,8 @@ sub-if3 c = search needs
 
 returns-3 : tie.Need-returns-3
 returns-3 c =
-    (is-size _ (c .before .before .before .before .if1 .left) (c .before .before .if2 .left) (λ q. c .if3 .taken (c .before .long-at .ensures .0 ∙ q)), tt)
+    let w = c .before .before in
+    (is-size _ (w .before .before .if1 .left) (w .if2 .left) (λ q. c .if3 .taken (c .before .long-at .ensures .0 ∙ q)), tt)
 
 word-at-requires : tie.Need-word-at-requires
 word-at-requires c κs = search needs
@@ -50,27 +51,28 @@ word-at-requires-2 : tie.Need-word-at-requires-2
 word-at-requires-2 c κs = search needs
 
 returns-4 : tie.Need-returns-4
-returns-4 c = (no-column _ (nine (c .before)) (version (c .before)) (size (c .before)) (omega arith), tt)
+returns-4 c = let w = c .before in (no-column _ (nine w) (version w) (size w) (omega arith), tt)
 
 returns-5 : tie.Need-returns-5
-returns-5 c = (many-columns _ (nine (c .before .before)) (version (c .before .before)) (size (c .before .before)) (omega arith), tt)
+returns-5 c = let w = c .before .before in (many-columns _ (nine w) (version w) (size w) (omega arith), tt)
 
 returns-6 : tie.Need-returns-6
-returns-6 c = (many-reads _ (nine (c .before .before .before)) (version (c .before .before .before)) (size (c .before .before .before)) (omega arith), tt)
+returns-6 c = let w = c .before .before .before in (many-reads _ (nine w) (version w) (size w) (omega arith), tt)
 
 returns-7 : tie.Need-returns-7
 returns-7 c =
     let w = c .before .before .before in
-    let s : Sized (bytes w) (w .before .word-at .result) (w .word-at2 .result) = record {
+    let s : Sized (bytes w) (record { size = 2; m = w .before .word-at .result; n = w .word-at2 .result }) = record {
+      nine = nine w;
+      cell = ap (λ (v : ℕ). 1 + v) (sym (version w));
       columns = w .before .word-at .ensures .0;
       reads = w .word-at2 .ensures .0;
-      nine = nine w;
-      version = version w;
+      two = refl;
       some-column = omega arith;
       few-columns = omega arith;
       few-reads = omega arith;
     } in
-    (is-sized _ (nine w) (version w) (size w) _ _ s, s)
+    (is-sized _ (nine w) (version w) (size w) s, s)
 
 pub check-header-spec : {M : Type 1} → statement M
 check-header-spec =

@@ -1,40 +1,58 @@
--- `first_fault` meets its contract. Of the cells passed none is faulty; of the reads passed, what is left gives what all give. Assumes nothing.
+-- `first_fault` meets its contract. Of the cells passed none is faulty; of the reads passed, what is left gives what all give.
 use borrow.Author.Needs.{needs}
+use native.Mathlib.Omega.{arith}
 use mathlib.Core.Bool.{false}
+use mathlib.Core.List.{List}
 use mathlib.Core.Path.{_≡_, sym, ap, _∙_}
-use Prim.Native.Nat.{_-_, _≤_}
+use Prim.Native.Nat.{ℕ, _-_, _≤_, _<_}
 use lib.ListN.{length, drop}
 use Rattle.meaning.specs.Numbers.{anyTo}
-use Rattle.meaning.specs.Refusals.{readFault}
+use Rattle.layout.specs.declared.Shape.{Shape}
+use Rattle.layout.proofs.Tests.{none-more}
 use Rattle.block.specs.Answers.{headNumber, headFault, CellsLie}
 use Rattle.block.specs.Cells.{faultyCell}
-use Rattle.block.proofs.CellChecks.{none-more}
-use Rattle.block.proofs.Walk.{head-stop, faulty-read, sound-read, Left, left-all, left-stop, left-on, left-none, left-end}
-use native.Mathlib.Omega.{arith}
+use Rattle.block.proofs.Walk.{head-stop, cell-below, cell-inside, faulty-read, sound-read}
+use Rattle.block.proofs.Walk.{Left, left-all, left-stop, left-on, left-none, left-end}
 use Rattle.block.proofs.first_fault.Statement.{statement}
 use Rattle.block.proofs.first_fault.Tie as tie
 
 abbrev Inv-loop : tie.InvT-loop
-Inv-loop block m n at r start end cells c i₀ i = (i ≤ c) × (anyTo i (faultyCell cells) ≡ false)
+Inv-loop shape reads size at r start end cells count i₀ i = (i ≤ count) × (anyTo i (faultyCell size cells) ≡ false)
 
 abbrev μ-loop : tie.MeasureT-loop
-μ-loop block m n at r start end cells c i₀ i = c - i
+μ-loop shape reads size at r start end cells count i₀ i = count - i
 
 abbrev Inv-reads : tie.InvT-reads
-Inv-reads block m n at₀ r₀ at r = (at ≤ length block) × (r ≤ n) × Left block m n at r
+Inv-reads shape reads size at₀ r₀ at r = (at ≤ length reads) × (r ≤ shape .n) × Left shape reads at r
 
 abbrev μ-reads : tie.MeasureT-reads
-μ-reads block m n at₀ r₀ at r = n - r
+μ-reads shape reads size at₀ r₀ at r = shape .n - r
 
 -- a head with cells: it passes, and where they are
-passes : (c : tie.After-h Inv-loop μ-loop Inv-reads μ-reads) → let w = c .before .before .before .before in headFault (w .before .before .args .m) (drop (w .reads .at) (w .before .before .args .block .now)) ≡ 0
+abbrev shape-of : (c : tie.After-h Inv-loop μ-loop Inv-reads μ-reads) → Shape
+shape-of c = c .before .before .before .before .before .before .before .args .shape
+
+abbrev bytes : (c : tie.After-h Inv-loop μ-loop Inv-reads μ-reads) → List ℕ
+bytes c = c .before .before .before .before .before .before .before .args .reads .now
+
+abbrev start : (c : tie.After-h Inv-loop μ-loop Inv-reads μ-reads) → ℕ
+start c = c .before .before .before .before .before .reads .at
+
+two : (c : tie.After-h Inv-loop μ-loop Inv-reads μ-reads) → shape-of c .size ≡ 2
+two c = c .before .before .before .before .before .before .before .pre .0
+
+some : (c : tie.After-h Inv-loop μ-loop Inv-reads μ-reads) → 0 < shape-of c .size
+some c = omega (arith, two c)
+
+passes : (c : tie.After-h Inv-loop μ-loop Inv-reads μ-reads) → headFault (shape-of c .size) (shape-of c .m) (drop (start c) (bytes c)) ≡ 0
 passes c = sym (c .before .before .read-head .ensures .0) ∙ ap headNumber (c .h .given .1)
 
-lies : (c : tie.After-h Inv-loop μ-loop Inv-reads μ-reads) → let w = c .before .before .before .before in CellsLie (w .before .before .args .block .now) (w .reads .at) (c .h .given .0 .0) (c .h .given .0 .1 .0)
+lies : (c : tie.After-h Inv-loop μ-loop Inv-reads μ-reads)
+    → CellsLie (shape-of c .size) (bytes c) (start c) (c .h .given .0 .0) (c .h .given .0 .1 .0)
 lies c = rw (c .h .given .1) at (c .before .before .read-head .ensures .1)
 
 reads-holds : tie.Need-reads-holds Inv-loop μ-loop Inv-reads μ-reads
-reads-holds c = (search needs, search needs, left-all _ _ _)
+reads-holds c = (search needs, search needs, left-all _ _)
 
 read-head-requires : tie.Need-read-head-requires Inv-loop μ-loop Inv-reads μ-reads
 read-head-requires c κs = search needs
@@ -57,15 +75,18 @@ part-cells-start c = omega (arith, lies (c .before))
 part-cells-end : tie.Need-part-cells-end Inv-loop μ-loop Inv-reads μ-reads
 part-cells-end c = omega (arith, lies (c .before))
 
+div-count : tie.Need-div-count Inv-loop μ-loop Inv-reads μ-reads
+div-count c = search needs
+
 loop-holds : tie.Need-loop-holds Inv-loop μ-loop Inv-reads μ-reads
 unfolding anyTo
 loop-holds c = search needs
 
 cell-bad-requires : tie.Need-cell-bad-requires Inv-loop μ-loop Inv-reads μ-reads
-cell-bad-requires c κs = search needs
+cell-bad-requires c κs = let e = two (c .before .before .before .before) in (e, cell-inside _ _ _ e (c .loop-test .taken))
 
 add-i : tie.Need-add-i Inv-loop μ-loop Inv-reads μ-reads
-add-i c = search needs
+add-i c = omega (arith, cell-below _ _ _ (c .before .before .loop-test .taken))
 
 loop-less : tie.Need-loop-less Inv-loop μ-loop Inv-reads μ-reads
 loop-less c = search needs
@@ -84,35 +105,39 @@ reads-less c = search needs
 reads-again : tie.Need-reads-again Inv-loop μ-loop Inv-reads μ-reads
 reads-again c =
     let h = c .before .before .before .before in
-    let w = h .before .before .before .before .reads in
+    let w = h .before .before .before .before .before .reads in
     let l = c .before .loop in
-    let e : 0 ≡ readFault 2 _ _ = sound-read _ (w .at) _ _ (lies h) _ (passes h) (l .i) (l .inv .0) (c .loop-test .left) (l .inv .1) in
-    (omega (arith, lies h), omega arith, left-on _ _ _ (w .at) (w .r) (w .inv .2) _ (h .before .before .before .if1 .left) e (lies h .ends))
+    let e = sound-read _ (some h) _ (w .at) _ _ (lies h) _ (passes h) (l .i) (l .inv .0) (c .loop-test .left) (l .inv .1) in
+    (omega (arith, lies h), omega arith, left-on _ _ (w .at) (w .r) (w .inv .2) _ (h .before .before .before .if1 .left) e (lies h .ends))
 
 returns : tie.Need-returns Inv-loop μ-loop Inv-reads μ-reads
 returns c =
-    let w = c .before .reads in
-    (left-none _ _ _ (w .at) (w .r) (w .inv .2) (c .if1 .taken), left-end _ _ _ (w .at) (w .r) (w .inv .2) (c .if1 .taken) (w .inv .0))
+    let w = c .before .before .reads in
+    (left-none _ _ (w .at) (w .r) (w .inv .2) (c .if1 .taken), left-end _ _ (w .at) (w .r) (w .inv .2) (c .if1 .taken) (w .inv .0))
 
 returns-2 : tie.Need-returns-2 Inv-loop μ-loop Inv-reads μ-reads
 returns-2 c =
-    let w = c .before .before .before .before .reads in
+    let w = c .before .before .before .before .before .reads in
     let l = c .before .before .before .if1 .left in
-    (left-stop _ _ _ (w .at) (w .r) (w .inv .2) 5 l (head-stop _ _ 5 (ap headNumber (sym (c .enum-told .given .1)) ∙ c .before .before .read-head .ensures .0) (omega arith)) (omega arith), l)
+    let e = head-stop _ _ _ 5 (ap headNumber (sym (c .enum-told .given .1)) ∙ c .before .before .read-head .ensures .0) (omega arith) in
+    (left-stop _ _ (w .at) (w .r) (w .inv .2) 5 l e (omega arith), l)
 
 returns-3 : tie.Need-returns-3 Inv-loop μ-loop Inv-reads μ-reads
 returns-3 c =
-    let w = c .before .before .before .before .reads in
+    let w = c .before .before .before .before .before .reads in
     let l = c .before .before .before .if1 .left in
-    (left-stop _ _ _ (w .at) (w .r) (w .inv .2) 6 l (head-stop _ _ 6 (ap headNumber (sym (c .enum-told2 .given .1)) ∙ c .before .before .read-head .ensures .0) (omega arith)) (omega arith), l)
+    let e = head-stop _ _ _ 6 (ap headNumber (sym (c .enum-told2 .given .1)) ∙ c .before .before .read-head .ensures .0) (omega arith) in
+    (left-stop _ _ (w .at) (w .r) (w .inv .2) 6 l e (omega arith), l)
 
 returns-4 : tie.Need-returns-4 Inv-loop μ-loop Inv-reads μ-reads
 returns-4 c =
     let h = c .before .before .before .before .before .before in
-    let w = h .before .before .before .before .reads in
+    let w = h .before .before .before .before .before .reads in
     let l = h .before .before .before .if1 .left in
-    let e = faulty-read _ (w .at) _ _ (lies h) _ (passes h) (c .before .before .before .loop .i) (c .before .before .loop-test .taken) (sym (c .before .cell-bad .ensures) ∙ c .if2 .taken) in
-    (left-stop _ _ _ (w .at) (w .r) (w .inv .2) 7 l e (omega arith), l)
+    let i = c .before .before .before .loop .i in
+    let f = sym (c .before .cell-bad .ensures) ∙ c .if2 .taken in
+    let e = faulty-read _ (some h) _ (w .at) _ _ (lies h) _ (passes h) i (c .before .before .loop-test .taken) f in
+    (left-stop _ _ (w .at) (w .r) (w .inv .2) 7 l e (omega arith), l)
 
 pub first-fault-spec : {M : Type 1} → statement M
 first-fault-spec =
@@ -130,6 +155,7 @@ first-fault-spec =
     sub-cells
     part-cells-start
     part-cells-end
+    div-count
     loop-holds
     cell-bad-requires
     add-i

@@ -1,7 +1,7 @@
--- `long_at` meets its contract. Assumes nothing.
+-- `long_at` meets its contract.
 use borrow.Author.Needs.{needs}
 use native.Mathlib.Omega.{arith}
-use Rattle.block.proofs.Fields.{long-is}
+use Rattle.layout.proofs.Fields.{long-is}
 use Rattle.block.proofs.long_at.Statement.{statement}
 use Rattle.block.proofs.long_at.Tie as tie
 

@@ -1,7 +1,7 @@
--- `word_at` meets its contract. Assumes nothing.
+-- `word_at` meets its contract.
 use borrow.Author.Needs.{needs}
 use native.Mathlib.Omega.{arith}
-use Rattle.block.proofs.Fields.{word-is}
+use Rattle.layout.proofs.Fields.{word-is}
 use Rattle.block.proofs.word_at.Statement.{statement}
 use Rattle.block.proofs.word_at.Tie as tie
 

@@ -2,7 +2,7 @@ use borrow.Author.Needs.{needs}
 use native.Mathlib.Omega.{arith}
 use lib.Dec.{ltb}
 use mathlib.Core.Bool.{true, false, not}
-use Rattle.column.specs.Sums.{sumsOf}
+use Rattle.sums.specs.Sums.{sumsOf}
 use Rattle.tally.proofs.Sides.{letter-summed, reported-summed, against-few}
 use Rattle.tally.proofs.Parts.{lettered}
 use Rattle.tally.proofs.letters_at.Statement.{statement}
@@ -119,21 +119,24 @@ add-t52 c =
     let first = second .before .before .before in
     let s = first .before .before .before .sums .result in
     let has = c .before .shared-slice-known5 .given in
-    let x = against-few _ _ _ _ (not (ltb (sumsOf s false false) (sumsOf s false true))) (first .letter .ensures) (c .before .before .before .against .ensures) (has _ .fits) (has _ .fits) in
-    let y = against-few _ _ _ _ (not (ltb (sumsOf s true false) (sumsOf s true true))) (second .letter2 .ensures) (c .against2 .ensures) (has _ .fits) (has _ .fits) in
+    let zero = not (ltb (sumsOf s false false) (sumsOf s false true)) in
+    let one = not (ltb (sumsOf s true false) (sumsOf s true true)) in
+    let flips = c .before .before .before .against .ensures in
+    let x = against-few _ _ _ _ zero (first .letter .ensures) flips (has _ .fits) (has _ .fits) in
+    let y = against-few _ _ _ _ one (second .letter2 .ensures) (c .against2 .ensures) (has _ .fits) (has _ .fits) in
     omega (arith, x, y)
 
 returns : tie.Need-returns
-returns c b sides of inside =
+returns c M sides of inside =
     let shown2 = c .before .before .before .before .before .before in
     let shown = shown2 .before .before .before in
     let second = shown .before .before .before in
     let first = second .before .before .before in
     let summed = first .before .before .before in
-    let total = summed .sums .ensures b sides of inside in
+    let total = summed .sums .ensures M sides of inside in
     let letter-of = letter-summed _ _ total in
     let reported-of = reported-summed _ _ total in
-    lettered b sides _ of _ inside _ _ _ _ _ _
+    lettered M sides _ of _ inside _ _ _ _ _ _
     (reported-of false _ (shown .reported .ensures))
     (reported-of true _ (shown2 .reported2 .ensures))
     (letter-of false _ (first .letter .ensures))

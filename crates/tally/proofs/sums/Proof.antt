@@ -40,7 +40,7 @@ shared-slice-read-t22 : tie.Need-shared-slice-read-t22
 shared-slice-read-t22 c = search needs
 
 returns : tie.Need-returns
-returns c = λ b sides of inside. sums-read b sides _ of _ inside
+returns c = λ M sides of inside. sums-read M sides _ of _ inside
 
 pub sums-spec : {M : Type 1} → statement M
 sums-spec =

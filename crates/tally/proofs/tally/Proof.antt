@@ -1,77 +1,91 @@
 use borrow.Author.Needs.{needs}
 use native.Mathlib.Omega.{arith}
-use mathlib.Core.Path.{_≡_, refl, subst}
-use Prim.Native.Nat.{ℕ, _-_, _≤_}
+use mathlib.Core.Path.{_≡_, refl}
+use Prim.Native.Nat.{ℕ, _+_, _-_, _*_, _≤_, _<_}
 use lib.ListN.{length, getD}
-use Rattle.meaning.specs.Block.{readsField, matrixOf}
-use Rattle.meaning.specs.Division.{Side}
-use Rattle.meaning.specs.Charge.{Letter}
 use Rattle.meaning.specs.Answer.{divisionOf}
-use Rattle.tally.specs.Tally.{talliedTo, place}
-use Rattle.block.proofs.Cuts.{Cut, cut-noted}
-use Rattle.tally.proofs.Walk.{light, Upto, upto-none, upto-more, upto-small}
+use Rattle.layout.specs.Reads.{matrixIn}
+use Rattle.layout.proofs.Cuts.{Cut}
+use Rattle.tally.proofs.Walk.{cleared, cut-read, light, Upto, upto-none, upto-more, upto-small, tallied-all}
 use Rattle.tally.proofs.tally.Statement.{statement}
 use Rattle.tally.proofs.tally.Tie as tie
 
 abbrev Inv-loop : tie.InvT-loop
-Inv-loop block start first end n sides tally₀ r₀ tally r =
-    (r ≤ n) × (length tally ≡ length tally₀) × Upto (matrixOf block) (divisionOf sides) r tally
+Inv-loop shape reads places sides tally₀ r₀ tally r =
+    (r ≤ shape .n) × (length tally ≡ length tally₀) × Upto (matrixIn shape reads) (divisionOf sides) r tally
 
 abbrev μ-loop : tie.MeasureT-loop
-μ-loop block start first end n sides tally₀ r₀ tally r = n - r
+μ-loop shape reads places sides tally₀ r₀ tally r = shape .n - r
 
--- read r
-cut : (c : tie.In-loop Inv-loop μ-loop) → let a = c .before .before .before .before .before .before .before .before .args in let r = c .before .loop .r in
-    Cut (a .block .now) r (getD (a .start .now) r 0) (getD (a .first .now) r 0) (getD (a .end .now) r 0)
-cut c = let s = c .before .before .before .before .before .before .before .before in cut-noted (s .pre .0 .0) (s .pre .0 .1) (c .before .loop .r) (omega (arith, s .pre .0 .2))
+-- each byte of the reads
+byte : (c : tie.At-loop Inv-loop μ-loop) (i : ℕ)
+    → getD (c .before .before .before .before .before .before .before .before .before .args .reads .now) i 0 < 256
+byte c i = c .before .before .before .before .before .before .before .before .shared-slice-known .given i .fits
+
+-- the tally has room for each column
+enough : (c : tie.At-loop Inv-loop μ-loop)
+    → let a = c .before .before .before .before .before .before .before .before .before .args in 4 * a .shape .m ≤ length (c .loop .tally)
+enough c =
+    let k = c .before .before .before in
+    let s = k .before .before .before .before .before .before in
+    omega (arith, s .pre .1 .1, c .loop .inv .1, k .clear .kept)
+
+-- read r has its three numbers
+room : (c : tie.Then1 Inv-loop μ-loop)
+    → let l = c .before .before in
+    3 * l .loop .r + 2 < length (l .before .before .before .before .before .before .before .before .before .args .places .now)
+room c =
+    let s = c .before .before .before .before .before .before .before .before .before .before .before in
+    omega (arith, c .if1 .taken, s .pre .0 .1 .room)
+
+-- and its cells
+cut : (c : tie.After-end-of Inv-loop μ-loop)
+    → let l = c .before .before .before .before .before in
+    let a = l .before .before .before .before .before .before .before .before .before .args in
+    Cut (a .shape) (a .reads .now) (l .loop .r) (c .before .before .start-of .result) (c .before .first-of .result) (c .end-of .result)
+cut c =
+    let f = c .before in
+    let t = f .before .before in
+    let l = t .before .before in
+    let s = l .before .before .before .before .before .before .before .before .before in
+    cut-read (s .pre .0 .0) (s .pre .0 .1) (l .loop .r) (t .if1 .taken) _ _ _
+    (f .before .start-of .ensures) (f .first-of .ensures) (c .end-of .ensures)
+
+clear-requires : tie.Need-clear-requires Inv-loop μ-loop
+clear-requires c κs = search needs
 
 loop-holds : tie.Need-loop-holds Inv-loop μ-loop
-loop-holds c = let s = c .before .before .before .before .before .before in (omega arith, refl, upto-none _ _ (s .args .tally .now) (s .pre .1 .1 .1))
+loop-holds c =
+    let k = c .before .before .clear in
+    let s = c .before .before .before .before .before .before .before .before in
+    (omega arith, refl, upto-none _ _ (k .last .0) (cleared (s .args .tally .now) (k .last .0) (omega (arith, k .kept)) (k .ensures)))
 
-mul-s : tie.Need-mul-s Inv-loop μ-loop
-mul-s c = search needs
+start-of-requires : tie.Need-start-of-requires Inv-loop μ-loop
+start-of-requires c κs = room c
 
-shared-slice-read-s : tie.Need-shared-slice-read-s Inv-loop μ-loop
-shared-slice-read-s c = search needs
+first-of-requires : tie.Need-first-of-requires Inv-loop μ-loop
+first-of-requires c κs = room (c .before)
 
-cast-s : tie.Need-cast-s Inv-loop μ-loop
-cast-s c = omega (arith, cut (c .before))
-
-mul-f : tie.Need-mul-f Inv-loop μ-loop
-mul-f c = search needs
-
-shared-slice-read-f : tie.Need-shared-slice-read-f Inv-loop μ-loop
-shared-slice-read-f c = search needs
-
-cast-f : tie.Need-cast-f Inv-loop μ-loop
-cast-f c = omega (arith, cut (c .before .before))
-
-mul-e : tie.Need-mul-e Inv-loop μ-loop
-mul-e c = search needs
-
-shared-slice-read-e : tie.Need-shared-slice-read-e Inv-loop μ-loop
-shared-slice-read-e c = search needs
-
-cast-e : tie.Need-cast-e Inv-loop μ-loop
-cast-e c = omega (arith, cut (c .before .before .before))
+end-of-requires : tie.Need-end-of-requires Inv-loop μ-loop
+end-of-requires c κs = room (c .before .before)
 
 sub-e : tie.Need-sub-e Inv-loop μ-loop
-sub-e c = omega (arith, cut (c .before .before .before))
+sub-e c = cut c .ordered
 
-mul-e-2 : tie.Need-mul-e-2 Inv-loop μ-loop
-mul-e-2 c = omega (arith, cut (c .before .before .before))
+mul-e : tie.Need-mul-e Inv-loop μ-loop
+mul-e c = omega (arith, cut (c .before) .inside)
 
 add-e : tie.Need-add-e Inv-loop μ-loop
-add-e c = omega (arith, cut (c .before .before .before))
+add-e c = omega (arith, cut (c .before) .inside)
 
 sub-cells : tie.Need-sub-cells Inv-loop μ-loop
-sub-cells c = omega (arith, cut (c .before .before .before))
+sub-cells c = search needs
 
 part-cells-start : tie.Need-part-cells-start Inv-loop μ-loop
-part-cells-start c = omega (arith, cut (c .before .before .before))
+part-cells-start c = search needs
 
 part-cells-end : tie.Need-part-cells-end Inv-loop μ-loop
-part-cells-end c = omega (arith, cut (c .before .before .before))
+part-cells-end c = omega (arith, cut (c .before) .inside)
 
 shared-slice-read-side-of : tie.Need-shared-slice-read-side-of Inv-loop μ-loop
 shared-slice-read-side-of c = search needs
@@ -81,11 +95,15 @@ side-of-requires c κs = search needs
 
 tally-read-requires : tie.Need-tally-read-requires Inv-loop μ-loop
 tally-read-requires c κs =
-    let s = c .before .before .before .before .before .before .before .before .before .before .before .before .before .before .before in
-    let l = c .before .before .before .before .before .before .before .before .loop in
-    let h = cut (c .before .before .before .before .before .before .before) in (
-      (c .before .side-of .ensures .0, omega (arith, h .half, h .ordered, h .within, l .inv .1, s .pre .1 .1 .0)),
-      (h .cells-good, upto-small (s .args .block .now) (s .pre .0 .0) (λ i. c .before .before .before .before .before .before .before .before .before .before .before .before .before .before .shared-slice-known .given i .fits) _ (l .r) (l .tally) (omega (arith, l .inv .0, s .pre .0 .2)) (l .inv .2)),
+    let e = c .before .before .before .before .before in
+    let l = e .before .before .before .before .before in
+    let s = l .before .before .before .before .before .before .before .before .before in
+    let lawful = s .pre .0 .0 in
+    let h = cut e in
+    let few : l .loop .r ≤ 1024 = omega (arith, l .loop .inv .0, lawful .few-reads) in
+    let thin = light (s .args .shape) (s .args .reads .now) (lawful .two) (byte l) in (
+      (lawful .two, h .ordered, h .sized, omega (arith, h .within, enough l), c .before .side-of .ensures .0),
+      (h .cells-good, upto-small _ _ thin (l .loop .r) (l .loop .tally) few (l .loop .inv .2)),
     )
 
 add-r : tie.Need-add-r Inv-loop μ-loop
@@ -96,12 +114,15 @@ loop-less c = search needs
 
 loop-again : tie.Need-loop-again Inv-loop μ-loop
 loop-again c =
-    let s = c .before .before .before .before .before .before .before .before .before .before .before .before .before .before .before .before .before .before in
-    let l = c .before .before .before .before .before .before .before .before .before .before .before .loop in
-    let h = cut (c .before .before .before .before .before .before .before .before .before .before) in (
-      omega arith,
-      omega (arith, l .inv .1, c .before .before .tally-read .kept),
-      upto-more (matrixOf (s .args .block .now)) (divisionOf (s .args .sides .now)) (l .r) _ _ (l .tally) (c .before .before .tally-read .last .1 .1 .1 .0) (h .whole) (c .before .before .before .before .side-of .ensures .1) (l .inv .2) (c .before .before .tally-read .ensures),
+    let k = c .before .before in
+    let e = k .before .before .before .before .before .before in
+    let t = e .before .before .before in
+    let l = t .before .before .loop in
+    let x = k .tally-read in
+    let side = k .before .before .side-of .ensures .1 in (
+      omega (arith, t .if1 .taken),
+      omega (arith, l .inv .1, x .kept),
+      upto-more _ _ (l .r) _ _ (l .tally) (x .last .1 .1 .1 .1 .1 .0) (cut e .whole) side (l .inv .2) (x .ensures),
     )
 
 same-length : tie.Need-same-length Inv-loop μ-loop
@@ -109,15 +130,11 @@ same-length c = search needs
 
 returns : tie.Need-returns Inv-loop μ-loop
 returns c =
-    let s = c .before .before .before .before .before .before .before .before in
-    let l = c .before .loop in
-    let e : l .r ≡ readsField (s .args .block .now) = omega (arith, s .pre .0 .2) in
-    record {
-      good = s .pre .0 .0;
-      light = light (s .args .block .now) (s .pre .0 .0) (λ i. c .before .before .before .before .before .before .before .shared-slice-known .given i .fits);
-      room = omega (arith, l .inv .1, s .pre .1 .1 .0);
-      each = λ j k. subst (λ (n : ℕ). (t : Side) (m : Letter) → getD (l .tally) (place j t m) 0 ≡ talliedTo (matrixOf (s .args .block .now)) (divisionOf (s .args .sides .now)) n j t m) e (l .inv .2 j);
-    }
+    let l = c .before .before in
+    let s = l .before .before .before .before .before .before .before .before .before in
+    let a = s .args in
+    tallied-all (a .shape) (a .reads .now) (a .sides .now) (l .loop .tally) (s .pre .0 .0) (byte l) (enough l) (l .loop .r) (omega arith)
+    (l .loop .inv .2)
 
 pub tally-spec : {M : Type 1} → statement M
 tally-spec =
@@ -125,18 +142,13 @@ tally-spec =
     (tie.spec
     Inv-loop
     μ-loop
+    clear-requires
     loop-holds
-    mul-s
-    shared-slice-read-s
-    cast-s
-    mul-f
-    shared-slice-read-f
-    cast-f
-    mul-e
-    shared-slice-read-e
-    cast-e
+    start-of-requires
+    first-of-requires
+    end-of-requires
     sub-e
-    mul-e-2
+    mul-e
     add-e
     sub-cells
     part-cells-start

@@ -2,39 +2,63 @@ use borrow.Author.Needs.{needs}
 use native.Mathlib.Omega.{arith}
 use mathlib.Core.Bool.{false}
 use mathlib.Core.Path.{_≡_, refl, subst}
-use Prim.Native.Nat.{ℕ, _+_, _-_, _*_, _/_, _%_, _≤_, _<_}
-use lib.ListN.{length, getD, length-set}
+use Prim.Native.Nat.{ℕ, _+_, _-_, _*_, _%_, _≤_, _<_}
+use lib.ListN.{length, length-set}
 use Rattle.meaning.specs.Block.{cellAt}
 use Rattle.meaning.specs.Refusals.{badCell}
-use Rattle.column.specs.Sums.{sideOf}
-use Rattle.block.specs.Places.{readFrom}
-use Rattle.tally.specs.Tally.{unit, ReadAdded}
-use Rattle.tally.proofs.Turns.{letter-known, cell-more, cell-room, none-added}
+use Rattle.layout.specs.Places.{readFrom}
+use Rattle.sums.specs.Sums.{sideOf}
+use Rattle.tally.specs.Tally.{ReadAdded}
+use Rattle.tally.proofs.Turns.{cell-inside, Stored, letter-known, cell-more, cell-room, none-added}
 use Rattle.tally.proofs.tally_read.Statement.{statement}
 use Rattle.tally.proofs.tally_read.Tie as tie
 
 abbrev Inv-loop : tie.InvT-loop
-Inv-loop cells from side tally₀ c at₀ i₀ tally at i =
-    (i ≤ c) × (at ≡ 4 * (from + i) + 2 * side) × (length tally ≡ length tally₀) × ReadAdded (readFrom from i cells) (sideOf side) tally₀ tally
+Inv-loop cells size from to side tally₀ c at₀ i₀ tally at i =
+    (i ≤ c) × (at ≡ 4 * (from + i) + 2 * side) × (length tally ≡ length tally₀)
+    × ReadAdded (readFrom size from i cells) (sideOf side) tally₀ tally
 
 abbrev μ-loop : tie.MeasureT-loop
-μ-loop cells from side tally₀ c at₀ i₀ tally at i = c - i
+μ-loop cells size from to side tally₀ c at₀ i₀ tally at i = c - i
 
--- cell i is good
-fine : (c : tie.In-loop Inv-loop μ-loop) → badCell (cellAt 2 (c .before .before .before .before .args .cells .now) (c .before .loop .i)) ≡ false
+-- cell i is inside, and good
+within : (c : tie.In-loop Inv-loop μ-loop)
+    → let a = c .before .before .before .before .args in a .size * c .before .loop .i + 1 < length (a .cells .now)
+within c =
+    let s = c .before .before .before .before in
+    cell-inside (s .args .size) (c .before .loop .i) _ _ (s .pre .0 .0) (c .loop-test .taken) (s .pre .0 .2)
+
+fine : (c : tie.In-loop Inv-loop μ-loop)
+    → let a = c .before .before .before .before .args in badCell (cellAt (a .size) (a .cells .now) (c .before .loop .i)) ≡ false
 fine c = c .before .before .before .before .pre .1 .0 (c .before .loop .i) (c .loop-test .taken)
 
--- where its tally stands, and what is added
-standing : (c : tie.After-slice-known2 Inv-loop μ-loop) → let a = c .before .before .before .before .before .before .before .before .before .args in let l = c .before .before .before .before .before .before .loop in
-    l .at + c .before .before .before .index .result % 2 ≡ 4 * (a .from + l .i) + 2 * a .side + getD (a .cells .now) (2 * l .i) 0 % 2
-standing c = omega (arith, c .before .before .before .before .before .before .loop .inv .1, c .before .before .before .index .ensures)
+-- where it is added, and what
+storing : (c : tie.After-slice-known2 Inv-loop μ-loop)
+    → let a = c .before .before .before .before .before .before .before .before .before .args in
+    let l = c .before .before .before .before .before .before .loop in
+    Stored (a .size) (a .cells .now) (l .i) (a .from) (a .side)
+    (l .at + c .before .before .before .wide .result % 2) (c .before .added .result)
+storing c =
+    let w = c .before .before .before in
+    let l = w .before .before in
+    let s = l .before .before .before .before in
+    record {
+      two = s .pre .0 .0;
+      fine = fine l;
+      small = s .pre .0 .4;
+      where-is = omega (arith, l .before .loop .inv .1, w .wide .ensures);
+      what-is = omega (arith, c .before .added .ensures, w .wide .ensures);
+    }
 
-adding : (c : tie.After-slice-known2 Inv-loop μ-loop) → let x = c .before .before .before .before .before .before .before .before .before .args .cells .now in let i = c .before .before .before .before .before .before .loop .i in
-    c .before .added .result ≡ getD x (2 * i + 1) 0 + (1 - getD x (2 * i) 0 / 2) * unit
-adding c = omega (arith, c .before .added .ensures, c .before .before .before .index .ensures)
+inside : (c : tie.After-slice-known2 Inv-loop μ-loop)
+    → let l = c .before .before .before .before .before .before .loop in
+    l .at + c .before .before .before .wide .result % 2 < length (l .tally)
+inside c =
+    let l = c .before .before .before .before .before in
+    omega (arith, storing c .where-is, l .loop-test .taken, l .before .loop .inv .2, l .before .before .before .before .pre .0)
 
-inside : (c : tie.After-slice-known2 Inv-loop μ-loop) → let l = c .before .before .before .before .before .before .loop in l .at + c .before .before .before .index .result % 2 < length (l .tally)
-inside c = omega (arith, standing c, c .before .before .before .before .before .before .before .before .before .pre .0)
+sub-c : tie.Need-sub-c Inv-loop μ-loop
+sub-c c = search needs
 
 mul-at : tie.Need-mul-at Inv-loop μ-loop
 mul-at c = search needs
@@ -48,28 +72,28 @@ add-at c = search needs
 loop-holds : tie.Need-loop-holds Inv-loop μ-loop
 loop-holds c =
     let a = c .before .before .args in
-    (omega arith, omega arith, refl, none-added (a .from) (a .cells .now) (sideOf (a .side)) (a .tally .now))
+    (omega arith, omega arith, refl, none-added (a .size) (a .from) (a .cells .now) (sideOf (a .side)) (a .tally .now))
 
-mul-index : tie.Need-mul-index Inv-loop μ-loop
-mul-index c = search needs
+mul-wide : tie.Need-mul-wide Inv-loop μ-loop
+mul-wide c = omega (arith, within c)
 
-shared-slice-read-index : tie.Need-shared-slice-read-index Inv-loop μ-loop
-shared-slice-read-index c = search needs
+shared-slice-read-wide : tie.Need-shared-slice-read-wide Inv-loop μ-loop
+shared-slice-read-wide c = omega (arith, within (c .before))
 
-index-requires : tie.Need-index-requires Inv-loop μ-loop
-index-requires c κs = search needs
+wide-requires : tie.Need-wide-requires Inv-loop μ-loop
+wide-requires c κs = search needs
 
 mul-added : tie.Need-mul-added Inv-loop μ-loop
-mul-added c = search needs
+mul-added c = omega (arith, within (c .before .before))
 
 add-added : tie.Need-add-added Inv-loop μ-loop
-add-added c = search needs
+add-added c = omega (arith, within (c .before .before))
 
 shared-slice-read-added : tie.Need-shared-slice-read-added Inv-loop μ-loop
-shared-slice-read-added c = search needs
+shared-slice-read-added c = within (c .before .before .before)
 
 added-requires : tie.Need-added-requires Inv-loop μ-loop
-added-requires c κs = omega (arith, letter-known _ _ (fine (c .before .before .before)), c .before .index .ensures)
+added-requires c κs = omega (arith, letter-known _ _ _ (fine (c .before .before .before)), c .before .wide .ensures)
 
 add-k : tie.Need-add-k Inv-loop μ-loop
 add-k c = search needs
@@ -82,10 +106,10 @@ slice-read-tally c = inside c
 
 add-tally : tie.Need-add-tally Inv-loop μ-loop
 add-tally c =
-    let s = c .before .before .before .before .before .before .before .before .before in
-    let l = c .before .before .before .before .before .before .loop in
-    let room = cell-room (s .args .cells .now) (l .i) (fine (c .before .before .before .before .before)) (s .args .from) (s .args .side) (s .pre .0 .0) _ _ (standing c) (adding c) (s .args .tally .now) (l .tally) 1000000000 (l .inv .3) (s .pre .1 .1) in
-    omega (arith, room, adding c, c .before .before .shared-slice-known3 .given (2 * l .i + 1) .fits)
+    let l = c .before .before .before .before .before .before in
+    let s = l .before .before .before in
+    let room = cell-room _ _ _ (storing c) (s .args .tally .now) (l .loop .tally) 1000000000 (l .loop .inv .3) (s .pre .1 .1) in
+    omega (arith, room, storing c .what-is, c .before .before .shared-slice-known3 .given (s .args .size * l .loop .i + 1) .fits)
 
 mul-tally-2 : tie.Need-mul-tally-2 Inv-loop μ-loop
 mul-tally-2 c = search needs
@@ -104,12 +128,13 @@ loop-less c = search needs
 
 loop-again : tie.Need-loop-again Inv-loop μ-loop
 loop-again c =
-    let s = c .before .before .before .before .before .before .before .before .before in
-    let l = c .before .before .before .before .before .before .loop in (
-      omega arith,
-      omega (arith, l .inv .1),
-      simp length-set (l .inv .2),
-      cell-more (s .args .cells .now) (l .i) (fine (c .before .before .before .before .before)) (s .args .from) (s .args .side) (s .pre .0 .0) _ _ (standing c) (adding c) (s .args .tally .now) (l .tally) (inside c) (l .inv .3),
+    let l = c .before .before .before .before .before in
+    let h = l .before .loop in
+    let a = l .before .before .before .before .args in (
+      omega (arith, l .loop-test .taken),
+      omega (arith, h .inv .1),
+      simp length-set (h .inv .2),
+      cell-more _ _ _ (storing c) (a .tally .now) (h .tally) (inside c) (h .inv .3),
     )
 
 same-length : tie.Need-same-length Inv-loop μ-loop
@@ -119,8 +144,8 @@ returns : tie.Need-returns Inv-loop μ-loop
 returns c =
     let a = c .before .before .before .before .args in
     let l = c .before .loop in
-    let e : l .i ≡ length (a .cells .now) / 2 = omega arith in
-    subst (λ (n : ℕ). ReadAdded (readFrom (a .from) n (a .cells .now)) (sideOf (a .side)) (a .tally .now) (l .tally)) e (l .inv .3)
+    let e : l .i ≡ a .to - a .from = omega arith in
+    subst (λ (n : ℕ). ReadAdded (readFrom (a .size) (a .from) n (a .cells .now)) (sideOf (a .side)) (a .tally .now) (l .tally)) e (l .inv .3)
 
 pub tally-read-spec : {M : Type 1} → statement M
 tally-read-spec =
@@ -128,13 +153,14 @@ tally-read-spec =
     (tie.spec
     Inv-loop
     μ-loop
+    sub-c
     mul-at
     mul-at-2
     add-at
     loop-holds
-    mul-index
-    shared-slice-read-index
-    index-requires
+    mul-wide
+    shared-slice-read-wide
+    wide-requires
     mul-added
     add-added
     shared-slice-read-added

@@ -1,23 +1,32 @@
-use mathlib.Core.Path.{_≡_, sym, ap, _∙_, subst}
-use Rattle.meaning.specs.Refusals.{Numbers}
-use Rattle.meaning.specs.Judge.{Judged, judging}
-use Rattle.block.specs.Answers.{Sized, checkedNumbers, checkedSizes}
-use Rattle.solve.proofs.Judging.{refused-judging}
 use borrow.Author.Needs.{needs}
+use native.Mathlib.Omega.{arith}
+use mathlib.Core.Path.{_≡_, sym, ap, _∙_, subst}
+use Prim.Native.Nat.{ℕ}
+use mathlib.Core.List.{List}
+use Rattle.meaning.specs.Judge.{Judged, judging}
+use Rattle.layout.specs.Reads.{Lawful}
+use Rattle.block.specs.Answers.{Passes, checkedNumbers, checkedSizes}
+use Rattle.block.proofs.BlockChecks.{part-is}
+use Rattle.velejume.proofs.Laws.{refused-judging, passed-judging}
 use Rattle.velejume.proofs.judge.Statement.{statement}
 use Rattle.velejume.proofs.judge.Tie as tie
+use Rattle.block.proofs.checked.Reads as checked-reads
+use Rattle.velejume.proofs.both.Reads as both-reads
+use Rattle.velejume.proofs.judged.Reads as judged-reads
+use Rattle.velejume.proofs.judgement.Reads as judgement-reads
 
--- the sizes of a block that passes
-sizes : (c : tie.After-v2) → Sized (c .before .before .before .before .before .before .args .block .now) (c .v2 .given .0 .0) (c .v2 .given .0 .1 .0)
-sizes c = subst (checkedSizes (c .before .before .before .before .before .before .args .block .now)) (c .v2 .given .1) (c .before .before .checked .ensures .1)
+-- a block that passes
+passes : (c : tie.After-v2) → let s = c .before .before .before .before .before .before in Passes (s .args .block .now) (c .v2 .given .0 .0)
+passes c = subst (checkedSizes ((c .before .before .before .before .before .before) .args .block .now)) (c .v2 .given .1) ((c .before .before) .checked .ensures .1)
 
 -- a refusal of the block, as the judging's result
-refused : (c : tie.After-v) → let a = c .before .before .before .before .before .before .args in record { number = c .v .given .0 .0; second = c .v .given .0 .1 .0; work = a .work .now } ≡ judging (a .block .now) (a .answer .now) (a .work .now)
+refused : (c : tie.After-v) → let a = c .before .before .before .before .before .before .args in
+    record { number = c .v .given .0 .0; second = c .v .given .0 .1 .0; work = a .work .now } ≡ judging (a .block .now) (a .answer .now) (a .work .now)
 refused c =
     let a = c .before .before .before .before .before .before .args in
-    refused-judging (a .block .now) (a .answer .now) (a .work .now) (c .v .given .0 .0) (c .v .given .0 .1 .0)
-    (sym (ap checkedNumbers (c .v .given .1)) ∙ c .before .before .checked .ensures .0)
-    (subst (checkedSizes (a .block .now)) (c .v .given .1) (c .before .before .checked .ensures .1))
+    let k = c .before .before .checked .ensures in
+    refused-judging (a .block .now) (a .answer .now) (a .work .now) (c .v .given .0 .0) (c .v .given .0 .1 .0) (sym (ap checkedNumbers (c .v .given .1)) ∙ k .0)
+    (subst (checkedSizes (a .block .now)) (c .v .given .1) (k .1))
 
 checked-requires : tie.Need-checked-requires
 checked-requires c κs = search needs
@@ -31,11 +40,17 @@ both-requires c κs = search needs
 enum-known-v-2 : tie.Need-enum-known-v-2
 enum-known-v-2 c = search needs
 
+sub-judgement : tie.Need-sub-judgement
+sub-judgement c = omega (arith, passes (c .before) .nine)
+
+part-judgement-start : tie.Need-part-judgement-start
+part-judgement-start c = omega (arith, passes (c .before) .nine)
+
+part-judgement-end : tie.Need-part-judgement-end
+part-judgement-end c = search needs
+
 judgement-requires : tie.Need-judgement-requires
-judgement-requires c κs =
-    let v = c .before .before in
-    let z = sizes v in
-    ((ap (λ (x : Numbers). x .number) (sym (v .before .before .checked .ensures .0) ∙ ap checkedNumbers (v .v2 .given .1)), z .columns, z .reads), (z .few-columns, z .few-reads))
+judgement-requires c κs = let s = c .before .before .before .before .before .before .before .before .before in let p = passes (c .before .before .before) in subst (λ (r : List ℕ). Lawful ((c .before .before .before) .v2 .given .0 .0) r) (sym (part-is (s .args .block .now))) (p .lawful)
 
 judged-requires : tie.Need-judged-requires
 judged-requires c κs = search needs
@@ -50,7 +65,8 @@ same-length c = search needs
 
 returns-2 : tie.Need-returns-2
 returns-2 c =
-    let e = c .before .before .before .judgement .ensures in
+    let s = c .before .before .before .before .before .before .before .before .before .before .before .before .before in
+    let e = c .before .before .before .judgement .ensures ∙ passed-judging (s .args .block .now) _ (passes (c .before .before .before .before .before .before .before)) (s .args .answer .now) (s .args .work .now) in
     (c .judged .ensures .0 ∙ ap (λ (x : Judged). x .number) e, (c .judged .ensures .1 ∙ ap (λ (x : Judged). x .second) e, ap (λ (x : Judged). x .work) e))
 
 pub judge-spec : {M : Type 1} → statement M
@@ -61,6 +77,9 @@ judge-spec =
     enum-known-v
     both-requires
     enum-known-v-2
+    sub-judgement
+    part-judgement-start
+    part-judgement-end
     judgement-requires
     judged-requires
     returns

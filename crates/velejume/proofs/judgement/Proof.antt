@@ -1,9 +1,10 @@
+use borrow.Author.Needs.{needs}
 use native.Mathlib.Omega.{arith}
 use mathlib.Core.Path.{refl}
-use Rattle.velejume.proofs.Laws.{any-reads-room, zeros}
-use borrow.Author.Needs.{needs}
+use Rattle.velejume.proofs.Laws.{any-reads-room}
 use Rattle.velejume.proofs.judgement.Statement.{statement}
 use Rattle.velejume.proofs.judgement.Tie as tie
+use Rattle.verdict.proofs.judge.Reads as judge-reads
 
 slice-aggregate-judge : tie.Need-slice-aggregate-judge
 slice-aggregate-judge c = search needs
@@ -17,24 +18,23 @@ slice-aggregate-judge-3 c = search needs
 slice-aggregate-judge-4 : tie.Need-slice-aggregate-judge-4
 slice-aggregate-judge-4 c = search needs
 
-slice-aggregate-judge-5 : tie.Need-slice-aggregate-judge-5
-slice-aggregate-judge-5 c = search needs
-
-slice-aggregate-judge-6 : tie.Need-slice-aggregate-judge-6
-slice-aggregate-judge-6 c = search needs
-
-slice-aggregate-judge-7 : tie.Need-slice-aggregate-judge-7
-slice-aggregate-judge-7 c = search needs
-
-slice-aggregate-judge-8 : tie.Need-slice-aggregate-judge-8
-slice-aggregate-judge-8 c = search needs
-
 judge-requires : tie.Need-judge-requires
 judge-requires c κs =
-    let s = c .before .before .before .before .before .before .before .before .before .before .before .before in
-    let m = s .pre .1 .0 in
-    let n = s .pre .1 .1 in
-    (s .pre .0, ((omega arith, omega arith, omega arith), ((omega arith, omega arith, any-reads-room (s .args .n), omega arith), (refl, (omega arith, zeros 4096)))))
+    let s = c .before .before .before .before .before .before .before .before in
+    let m = s .pre .few-columns in
+    let n = s .pre .few-reads in (
+      s .pre,
+      (
+        record {
+          places-room = omega (arith, m, n);
+          lists-room = omega (arith, m, n);
+          lists-empty = refl;
+          taken-room = any-reads-room (s .args .shape .n);
+          tally-room = omega (arith, m, n);
+        },
+        omega (arith, n),
+      ),
+    )
 
 same-length : tie.Need-same-length
 same-length c = search needs
@@ -50,10 +50,6 @@ judgement-spec =
     slice-aggregate-judge-2
     slice-aggregate-judge-3
     slice-aggregate-judge-4
-    slice-aggregate-judge-5
-    slice-aggregate-judge-6
-    slice-aggregate-judge-7
-    slice-aggregate-judge-8
     judge-requires
     same-length
     returns)

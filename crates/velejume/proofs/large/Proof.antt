@@ -1,9 +1,10 @@
+use borrow.Author.Needs.{needs}
 use native.Mathlib.Omega.{arith}
 use mathlib.Core.Path.{refl}
-use Rattle.velejume.proofs.Laws.{any-reads-room, zeros}
-use borrow.Author.Needs.{needs}
+use Rattle.velejume.proofs.Laws.{any-reads-room}
 use Rattle.velejume.proofs.large.Statement.{statement}
 use Rattle.velejume.proofs.large.Tie as tie
+use Rattle.solve.proofs.solve.Reads as solve-reads
 
 slice-aggregate-solve : tie.Need-slice-aggregate-solve
 slice-aggregate-solve c = search needs
@@ -14,24 +15,20 @@ slice-aggregate-solve-2 c = search needs
 slice-aggregate-solve-3 : tie.Need-slice-aggregate-solve-3
 slice-aggregate-solve-3 c = search needs
 
-slice-aggregate-solve-4 : tie.Need-slice-aggregate-solve-4
-slice-aggregate-solve-4 c = search needs
-
-slice-aggregate-solve-5 : tie.Need-slice-aggregate-solve-5
-slice-aggregate-solve-5 c = search needs
-
-slice-aggregate-solve-6 : tie.Need-slice-aggregate-solve-6
-slice-aggregate-solve-6 c = search needs
-
-slice-aggregate-solve-7 : tie.Need-slice-aggregate-solve-7
-slice-aggregate-solve-7 c = search needs
-
 solve-requires : tie.Need-solve-requires
 solve-requires c κs =
-    let s = c .before .before .before .before .before .before .before .before .before .before .before .before in
-    let m = s .pre .1 .0 in
-    let n = s .pre .1 .1 in
-    (s .pre .0, ((omega arith, omega arith, omega arith), ((omega arith, omega arith, any-reads-room (s .args .n)), (refl, (omega arith, zeros 4096)))))
+    let s = c .before .before .before .before .before .before .before .before in
+    let m = s .pre .few-columns in
+    let n = s .pre .few-reads in (
+      s .pre,
+      record {
+        places-room = omega (arith, m, n);
+        lists-room = omega (arith, m, n);
+        lists-empty = refl;
+        taken-room = any-reads-room (s .args .shape .n);
+        tally-room = omega (arith, m, n);
+      },
+    )
 
 same-length : tie.Need-same-length
 same-length c = search needs
@@ -49,10 +46,6 @@ large-spec =
     slice-aggregate-solve
     slice-aggregate-solve-2
     slice-aggregate-solve-3
-    slice-aggregate-solve-4
-    slice-aggregate-solve-5
-    slice-aggregate-solve-6
-    slice-aggregate-solve-7
     solve-requires
     same-length
     same-length-2

@@ -1,12 +1,16 @@
-use mathlib.Core.Path.{subst}
-use Rattle.solve.specs.Outcomes.{ColumnsFound}
-use Rattle.solve.proofs.Judging.{crowded-judging}
 use borrow.Author.Needs.{needs}
+use native.Mathlib.Omega.{arith}
+use mathlib.Core.Path.{subst}
+use Rattle.layout.specs.Reads.{matrixIn}
+use Rattle.ready.specs.Piling.{ColumnsFound}
+use Rattle.verdict.proofs.Judging.{crowded-judging}
 use Rattle.verdict.proofs.judge.Statement.{statement}
 use Rattle.verdict.proofs.judge.Tie as tie
+use Rattle.ready.proofs.piled.Reads as piled-reads
+use Rattle.verdict.proofs.sized.Reads as sized-reads
 
 piled-requires : tie.Need-piled-requires
-piled-requires c κs = let s = c .before .before .before .before .before .before .before .before .before .before .before .before .before .before .before in (s .pre .0, (s .pre .1 .0, (s .pre .1 .1 .0 .0, s .pre .1 .1 .1 .0)))
+piled-requires c κs = let s = c .before .before .before .before .before .before .before .before .before in let r = s .pre .1 .0 in (s .pre .0, ((r .places-room, r .lists-room), r .lists-empty))
 
 enum-known-c : tie.Need-enum-known-c
 enum-known-c c = search needs
@@ -16,9 +20,10 @@ enum-known-c-2 c = search needs
 
 sized-requires : tie.Need-sized-requires
 sized-requires c κs =
-    let q = c .before .before .before .before .before .before .before .before .before .before .before .before .before .before .before .before .before .before .before .before in
-    let s = q .before .before .before .before .before .before .before .before .before .before .before .before .before .before .before .before in
-    (q .piled .ensures .0, (subst (ColumnsFound (s .args .block .now)) (c .before .before .before .before .before .before .before .before .before .before .c2 .given .1) (q .piled .ensures .1), ((s .pre .1 .1 .0 .1, s .pre .1 .1 .0 .2, s .pre .1 .1 .0 .3), s .pre .1 .1 .1 .1)))
+    let s = c .before .before .before .before .before .before .before .before .before .before .before .before .before .before .before .before .before .before .before .before .before .before in
+    let q = c .before .before .before .before .before .before .before .before .before .before .before .before .piled in
+    let r = s .pre .1 .0 in
+    (q .ensures .0, (subst (ColumnsFound (matrixIn (s .args .shape) (s .args .reads .now))) ((c .before .before .before .before .before .before) .c2 .given .1) (q .ensures .1), (r .taken-room, r .tally-room, s .pre .1 .1)))
 
 same-length : tie.Need-same-length
 same-length c = search needs
@@ -26,17 +31,18 @@ same-length c = search needs
 same-length-2 : tie.Need-same-length-2
 same-length-2 c = search needs
 
+returns : tie.Need-returns
+returns c =
+    let s = c .before .before .before .before .before .before .before .before .before .before .before .before .before .before .before .before .before in
+    let q = c .before .before .before .before .before .before .before .piled in
+    let M = matrixIn (s .args .shape) (s .args .reads .now) in
+    crowded-judging M (s .args .answer .now) (s .args .work .now) ((c .before) .c .given .0 .0) (subst (ColumnsFound M) ((c .before) .c .given .1) (q .ensures .1))
+
 same-length-3 : tie.Need-same-length-3
 same-length-3 c = search needs
 
 same-length-4 : tie.Need-same-length-4
 same-length-4 c = search needs
-
-returns : tie.Need-returns
-returns c =
-    let q = c .before .before .before .before .before .before .before .before .before .before .before in
-    let s = q .before .before .before .before .before .before .before .before .before .before .before .before .before .before .before .before in
-    crowded-judging (s .args .block .now) (s .args .answer .now) (s .args .work .now) (s .pre .0 .0) (c .before .c .given .0 .0) (subst (ColumnsFound (s .args .block .now)) (c .before .c .given .1) (q .piled .ensures .1))
 
 same-length-5 : tie.Need-same-length-5
 same-length-5 c = search needs
@@ -47,26 +53,8 @@ same-length-6 c = search needs
 same-length-7 : tie.Need-same-length-7
 same-length-7 c = search needs
 
-same-length-8 : tie.Need-same-length-8
-same-length-8 c = search needs
-
-same-length-9 : tie.Need-same-length-9
-same-length-9 c = search needs
-
-same-length-10 : tie.Need-same-length-10
-same-length-10 c = search needs
-
-same-length-11 : tie.Need-same-length-11
-same-length-11 c = search needs
-
-same-length-12 : tie.Need-same-length-12
-same-length-12 c = search needs
-
-same-length-13 : tie.Need-same-length-13
-same-length-13 c = search needs
-
 returns-2 : tie.Need-returns-2
-returns-2 c = search needs
+returns-2 c = c .before .before .before .before .before .before .before .before .sized .ensures
 
 pub judge-spec : {M : Type 1} → statement M
 judge-spec =
@@ -78,16 +66,10 @@ judge-spec =
     sized-requires
     same-length
     same-length-2
+    returns
     same-length-3
     same-length-4
-    returns
     same-length-5
     same-length-6
     same-length-7
-    same-length-8
-    same-length-9
-    same-length-10
-    same-length-11
-    same-length-12
-    same-length-13
     returns-2)

@@ -1,54 +1,58 @@
-use Prim.Native.Nat.{_-_}
-use native.Mathlib.Omega.{arith}
-use lib.ListN.{length, take}
-use lib.Seq.{length-take-le}
-use Rattle.meaning.specs.Judge.{otherCounts}
-use mathlib.Core.Path.{_≡_, sym, _∙_}
-use Rattle.verdict.proofs.Marks.{seventeen, same-counts}
-use Rattle.verdict.proofs.Verdicts.{counts-told, gives-50, gives-51, is-counted}
 use borrow.Author.Needs.{needs}
+use native.Mathlib.Omega.{arith}
+use mathlib.Core.Path.{_≡_, sym, _∙_}
+use Rattle.meaning.specs.Judge.{otherCounts}
+use Rattle.layout.specs.Reads.{matrixIn}
+use Rattle.layout.proofs.Laws.{count-is}
+use Rattle.stated.specs.Stated.{Sized}
+use Rattle.stated.proofs.Marks.{seventeen, same-counts}
+use Rattle.verdict.proofs.Verdicts.{counts-told, gives-50, gives-51, gives-52, is-marked}
 use Rattle.verdict.proofs.judged.Statement.{statement}
 use Rattle.verdict.proofs.judged.Tie as tie
+use Rattle.stated.proofs.malformed.Reads as malformed-reads
+use Rattle.stated.proofs.other_counts.Reads as other-counts-reads
+use Rattle.stated.proofs.unknown_mark.Reads as unknown-mark-reads
+use Rattle.verdict.proofs.weighed.Reads as weighed-reads
+
+-- other n or m
+counts : (c : tie.After-other-counts) → let a = c .before .before .before .before .before .before .before .before .before .before .args in c .other-counts .result ≡ otherCounts (matrixIn (a .shape) (a .reads .now)) (a .answer .now)
+counts c = let s = c .before .before .before .before .before .before .before .before .before .before in c .other-counts .ensures ∙ counts-told _ (s .args .answer .now) (s .args .shape .n) (count-is (s .args .shape) (s .args .reads .now))
+
+-- an answer of our size
+sized : (c : tie.Else2) → let a = c .before .before .before .before .before .before .before .before .before .before .before .args in Sized (a .answer .now) (a .shape .m) (a .shape .n)
+sized c =
+    let s = c .before .before .before .before .before .before .before .before .before .before .before in
+    let h = s .pre .0 .ready .lawful in
+    same-counts (s .args .answer .now) (s .args .shape .m) (s .args .shape .n) (h .few-columns) (h .few-reads) (sym ((c .before .before .before) .malformed .ensures) ∙ (c .before .before) .if1 .left)
+    (sym ((c .before) .other-counts .ensures) ∙ c .if2 .left)
 
 malformed-requires : tie.Need-malformed-requires
 malformed-requires c κs = search needs
 
 returns : tie.Need-returns
-returns c = search (needs, gives-50)
+returns c = let s = c .before .before .before .before .before .before .before .before .before in gives-50 _ (s .args .answer .now) _ ((c .before) .malformed .ensures) (c .if1 .taken)
 
 other-counts-requires : tie.Need-other-counts-requires
-other-counts-requires c κs = seventeen _ (sym (c .before .malformed .ensures) ∙ c .if1 .left)
-
--- 51 by the block
-counts : (c : tie.After-other-counts) → c .other-counts .result ≡ otherCounts (c .before .before .before .before .before .before .before .before .before .before .before .before .before .args .block .now) (c .before .before .before .before .before .before .before .before .before .before .before .before .before .args .answer .now)
-counts c = let s = c .before .before .before .before .before .before .before .before .before .before .before .before .before in c .other-counts .ensures ∙ counts-told _ _ _ _ (s .pre .0 .columns) (s .pre .0 .reads)
+other-counts-requires c κs = let s = c .before .before .before .before .before .before .before .before .before in seventeen (s .args .answer .now) (sym ((c .before) .malformed .ensures) ∙ c .if1 .left)
 
 returns-2 : tie.Need-returns-2
-returns-2 c = gives-51 _ _ _ (c .before .before .before .malformed .ensures) (c .before .before .if1 .left) _ (counts (c .before)) (c .if2 .taken)
+returns-2 c = let s = c .before .before .before .before .before .before .before .before .before .before .before in gives-51 _ (s .args .answer .now) _ ((c .before .before .before) .malformed .ensures) ((c .before .before) .if1 .left) _ (counts (c .before)) (c .if2 .taken)
 
-sub-marked : tie.Need-sub-marked
-sub-marked c = search needs
+unknown-mark-requires : tie.Need-unknown-mark-requires
+unknown-mark-requires c κs = sized c
 
-part-marked-start : tie.Need-part-marked-start
-part-marked-start c = search needs
+returns-3 : tie.Need-returns-3
+returns-3 c =
+    let s = c .before .before .before .before .before .before .before .before .before .before .before .before .before in
+    gives-52 _ (s .args .answer .now) _ ((c .before .before .before .before .before) .malformed .ensures) ((c .before .before .before .before) .if1 .left) _ (counts (c .before .before .before)) ((c .before .before) .if2 .left) _ ((c .before) .unknown-mark .ensures) (c .if3 .taken)
 
-part-marked-end : tie.Need-part-marked-end
-part-marked-end c = search needs
-
-marked-requires : tie.Need-marked-requires
-marked-requires c κs =
-    let s = c .before .before .before .before .before .before .before .before .before .before .before .before .before .before .before .before in
-    let e = c .before .before in
-    let m = e .before .before in
-    let room : s .args .n ≡ length (take (s .args .n - 0) (s .args .sides .now)) = sym (length-take-le (s .args .n - 0) (s .args .sides .now) (omega (arith, s .pre .1 .0)) ∙ omega arith) in (
+weighed-requires : tie.Need-weighed-requires
+weighed-requires c κs =
+    let s = c .before .before .before .before .before .before .before .before .before .before .before .before .before .before .before in (
       s .pre .0,
       (
-        (
-          room,
-          same-counts _ _ _ (sym (m .before .malformed .ensures) ∙ m .if1 .left) (sym (e .before .other-counts .ensures) ∙ e .if2 .left),
-          is-counted _ _ _ (m .before .malformed .ensures) (m .if1 .left) _ (counts (e .before)) (e .if2 .left),
-        ),
-        s .pre .1 .1,
+        (sized (c .before .before .before .before), is-marked _ (s .args .answer .now) _ ((c .before .before .before .before .before .before .before) .malformed .ensures) ((c .before .before .before .before .before .before) .if1 .left) _ (counts (c .before .before .before .before .before)) ((c .before .before .before .before) .if2 .left) _ ((c .before .before .before) .unknown-mark .ensures) ((c .before .before) .if3 .left)),
+        s .pre .1,
       ),
     )
 
@@ -58,8 +62,8 @@ same-length c = search needs
 same-length-2 : tie.Need-same-length-2
 same-length-2 c = search needs
 
-returns-3 : tie.Need-returns-3
-returns-3 c = search needs
+returns-4 : tie.Need-returns-4
+returns-4 c = c .before .before .before .before .weighed .ensures
 
 pub judged-spec : {M : Type 1} → statement M
 judged-spec =
@@ -69,10 +73,9 @@ judged-spec =
     returns
     other-counts-requires
     returns-2
-    sub-marked
-    part-marked-start
-    part-marked-end
-    marked-requires
+    unknown-mark-requires
+    returns-3
+    weighed-requires
     same-length
     same-length-2
-    returns-3)
+    returns-4)

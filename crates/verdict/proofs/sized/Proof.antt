@@ -1,44 +1,79 @@
-use native.Mathlib.Omega.{arith}
-use Prim.Native.Nat.{_*_, _≤_}
-use mathlib.Core.Path.{sym}
-use native.Mathlib.Nat.{le-trans, le-of-eq}
-use Rattle.solve.proofs.Piles.{table-fits}
-use Rattle.solve.proofs.Calls.{columns-right}
-use Rattle.solve.proofs.Judging.{work-judging, verdict-judging}
 use borrow.Author.Needs.{needs}
+use native.Mathlib.Omega.{arith}
+use Prim.Native.Nat.{_-_, _*_, _≤_}
+use mathlib.Core.Path.{_≡_, sym, _∙_}
+use native.Mathlib.Nat.{le-trans, le-of-eq}
+use lib.ListN.{length, take, drop, length-drop}
+use lib.Seq.{length-take-le}
+use Rattle.layout.specs.Reads.{matrixIn}
+use Rattle.ready.proofs.Piles.{table-fits}
+use Rattle.ready.proofs.Refused.{columns-right}
+use Rattle.verdict.proofs.Judging.{work-judging, verdict-judging}
 use Rattle.verdict.proofs.sized.Statement.{statement}
 use Rattle.verdict.proofs.sized.Tie as tie
+use Rattle.ready.proofs.tabled.Reads as tabled-reads
+use Rattle.verdict.proofs.judged.Reads as judged-reads
 
 -- the table's size
-fits : (c : tie.Start) → c .args .m * c .args .t ≤ 2097152
-fits c = table-fits _ _ _ _ _ _ _ (c .pre .0) (c .args .t) (c .pre .1 .0)
+fits : (c : tie.Start) → c .args .shape .m * c .args .t ≤ 2097152
+fits c = table-fits _ _ _ _ (c .pre .0) (c .args .t) (c .pre .1 .0)
+
+-- the part of the scratch that the tally takes, and that of the room for sides
+tally-room : (c : tie.After-tabled) → let a = c .before .before .before .before .before .before .before .before .before .before .before .before .before .args in length (take (4 * a .shape .m - 0) (drop 0 (c .tabled .last .1 .1 .1 .1 .1 .0))) ≡ 4 * a .shape .m
+tally-room c =
+    let s = c .before .before .before .before .before .before .before .before .before .before .before .before .before in
+    let l = c .tabled .last .1 .1 .1 .1 .1 .0 in
+    length-take-le (4 * s .args .shape .m - 0) (drop 0 l) (omega (arith, s .pre .1 .1 .1, length-drop 0 l, c .tabled .kept .1 .1 .1 .1 .1 .0)) ∙ omega arith
+
+sides-room : (c : tie.Start) → length (take (c .args .shape .n - 0) (drop 0 (c .args .sides .now))) ≡ c .args .shape .n
+sides-room c = length-take-le (c .args .shape .n - 0) (drop 0 (c .args .sides .now)) (omega (arith, c .pre .1 .1 .2, length-drop 0 (c .args .sides .now))) ∙ omega arith
 
 mul-need : tie.Need-mul-need
-mul-need c = omega (arith, fits (c .before .before .before .before .before .before .before .before .before .before .before))
+mul-need c = omega (arith, fits (c .before .before .before .before .before .before .before .before))
 
-cast-t18 : tie.Need-cast-t18
-cast-t18 c = omega (arith, fits (c .before .before .before .before .before .before .before .before .before .before .before .before))
+cast-t15 : tie.Need-cast-t15
+cast-t15 c = omega (arith, fits (c .before .before .before .before .before .before .before .before .before))
 
 returns : tie.Need-returns
-returns c = let s = c .before .before .before .before .before .before .before .before .before .before .before .before in work-judging (s .args .block .now) (s .pre .0 .good) (s .args .m) (s .args .t) (s .pre .0 .columns) (s .pre .1 .0) (s .args .answer .now) (s .args .work .now) (c .if1 .taken)
+returns c =
+    let s = c .before .before .before .before .before .before .before .before .before in
+    work-judging (matrixIn (s .args .shape) (s .args .reads .now)) (s .args .answer .now) (s .args .work .now) (s .args .t) (s .pre .1 .0) (c .if1 .taken)
 
 tabled-requires : tie.Need-tabled-requires
-tabled-requires c κs = let s = c .before .before .before .before .before .before .before .before .before .before .before .before .before .before .before .before in (s .pre .0, (s .pre .1 .0, (s .pre .1 .1 .0 .0, s .pre .1 .1 .0 .1, c .before .before .before .before .if1 .left)))
+tabled-requires c κs = let s = c .before .before .before .before .before .before .before .before .before .before .before .before in (s .pre .0, (s .pre .1 .0, (s .pre .1 .1 .0, (c .before .before .before) .if1 .left)))
+
+mul-e : tie.Need-mul-e
+mul-e c = search needs
+
+sub-judged : tie.Need-sub-judged
+sub-judged c = search needs
+
+part-judged-start : tie.Need-part-judged-start
+part-judged-start c = search needs
+
+part-judged-end : tie.Need-part-judged-end
+part-judged-end c = search needs
+
+sub-judged-2 : tie.Need-sub-judged-2
+sub-judged-2 c = search needs
+
+part-judged-start-2 : tie.Need-part-judged-start-2
+part-judged-start-2 c = search needs
+
+part-judged-end-2 : tie.Need-part-judged-end-2
+part-judged-end-2 c = search needs
 
 judged-requires : tie.Need-judged-requires
 judged-requires c κs =
-    let f = c .before .before .before .before .before .before .before .before .before .before .before .before .before in
-    let s = f .before .before .before .before .before .before .before .before .before .before .before .before .before .before .before .before .before in
-    let work = f .tabled .last .1 .1 .1 .1 .1 .1 .1 .1 .1 .1 .0 in (
+    let s = c .before .before .before .before .before .before .before .before .before .before .before .before .before .before .before .before .before .before .before .before .before .before .before .before in
+    let f = c .before .before .before .before .before .before .before .before .before .before .before .tabled in (
       record {
-        ready = f .tabled .ensures .0;
-        columns = s .pre .0 .columns;
-        reads = s .pre .0 .reads;
+        ready = f .ensures .0;
         entries-are = s .pre .1 .0 .entries-are;
-        room = le-trans (f .before .before .before .before .before .if1 .left) (le-of-eq (sym (f .tabled .kept .1 .1 .1 .1 .1 .1 .1 .1 .1 .1 .0)));
-        filled = columns-right (s .args .block .now) (s .args .work .now) work (f .tabled .ensures .1);
+        room = le-trans ((c .before .before .before .before .before .before .before .before .before .before .before .before .before .before .before) .if1 .left) (le-of-eq (sym (f .kept .1 .1 .1 .1 .1 .1 .0)));
+        right = columns-right (matrixIn (s .args .shape) (s .args .reads .now)) (s .args .work .now) _ (f .ensures .1);
       },
-      (s .pre .1 .1 .0 .2, s .pre .1 .1 .1),
+      (le-of-eq (sym (tally-room (c .before .before .before .before .before .before .before .before .before .before .before))), sym (sides-room s)),
     )
 
 same-length : tie.Need-same-length
@@ -53,32 +88,31 @@ same-length-3 c = search needs
 same-length-4 : tie.Need-same-length-4
 same-length-4 c = search needs
 
-same-length-5 : tie.Need-same-length-5
-same-length-5 c = search needs
-
-same-length-6 : tie.Need-same-length-6
-same-length-6 c = search needs
-
 returns-2 : tie.Need-returns-2
 returns-2 c =
-    let w = c .before .before .before .before in
-    let f = w .before .before .before .before .before .before .before .before .before .before .before .before .before .before in
-    let s = f .before .before .before .before .before .before .before .before .before .before .before .before .before .before .before .before .before in
-    verdict-judging (s .args .block .now) (s .pre .0 .good) (s .args .m) (s .args .t) (s .pre .0 .columns) (s .pre .1 .0) (s .args .answer .now) (s .args .work .now) (f .tabled .last .1 .1 .1 .1 .1 .1 .1 .1 .1 .1 .0) _ (f .before .before .before .before .before .if1 .left) (w .judged .ensures) (f .tabled .ensures .1)
+    let s = c .before .before .before .before .before .before .before .before .before .before .before .before .before .before .before .before .before .before .before .before .before .before .before .before .before .before .before .before .before in
+    let f = c .before .before .before .before .before .before .before .before .before .before .before .before .before .before .before .before .tabled in
+    verdict-judging (matrixIn (s .args .shape) (s .args .reads .now)) (s .args .answer .now) (s .args .work .now) (s .args .t) (s .pre .1 .0) (f .last .1 .1 .1 .1 .1 .1 .0) _
+    ((c .before .before .before .before .before .before .before .before .before .before .before .before .before .before .before .before .before .before .before .before) .if1 .left) ((c .before .before .before .before) .judged .ensures) (f .ensures .1)
 
 pub sized-spec : {M : Type 1} → statement M
 sized-spec =
     tie.close
     (tie.spec
     mul-need
-    cast-t18
+    cast-t15
     returns
     tabled-requires
+    mul-e
+    sub-judged
+    part-judged-start
+    part-judged-end
+    sub-judged-2
+    part-judged-start-2
+    part-judged-end-2
     judged-requires
     same-length
     same-length-2
     same-length-3
     same-length-4
-    same-length-5
-    same-length-6
     returns-2)

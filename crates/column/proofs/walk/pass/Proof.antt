@@ -1,0 +1,161 @@
+use borrow.Author.Needs.{needs}
+use native.Mathlib.Omega.{arith}
+use Prim.Native.Nat.{_-_, _%_, _≤_, _<_}
+use lib.ListN.{length, set, length-set}
+use lib.Pow.{pow-mono}
+use mathlib.Core.Path.{_≡_, refl, ap, _∙_}
+use Rattle.meaning.specs.Active.{used}
+use Rattle.plain.proofs.Laws.{one-shl}
+use Rattle.column.specs.Walk.{At, Walked}
+use Rattle.column.proofs.Laws.{and-one}
+use Rattle.column.proofs.Steps.{used-small, at-start, at-fits, walked-start, walked-all, first-turns}
+use Rattle.column.proofs.walk.pass.Statement.{statement}
+use Rattle.column.proofs.walk.pass.Tie as tie
+
+abbrev Inv-loop : tie.InvT-loop
+Inv-loop w turn p taken part₀ e s₀ k₀ q₀ n₀ part s k q n = (0 < n) × (n % 4 ≡ 0) × (length part ≡ length part₀) × Walked w turn p taken n part s k q
+
+abbrev μ-loop : tie.MeasureT-loop
+μ-loop w turn p taken part₀ e s₀ k₀ q₀ n₀ part s k q n = e - n
+
+sums-requires : tie.Need-sums-requires Inv-loop μ-loop
+sums-requires c κs = search needs
+
+-- index 0
+first : (c : tie.After-sums Inv-loop μ-loop) → At (c .before .before .before .args .w .now) (c .before .before .before .args .turn .now) (c .before .before .before .args .p) (c .before .before .before .args .taken .now) (c .sums .result) 0 0
+first c = let s = c .before .before .before in at-start (s .pre .0 .0) (s .pre .0 .1) (s .pre .1 .0) (c .sums .ensures)
+
+entry-requires : tie.Need-entry-requires Inv-loop μ-loop
+entry-requires c κs = at-fits (first c)
+
+slice-write-part : tie.Need-slice-write-part Inv-loop μ-loop
+slice-write-part c = omega (arith, first (c .before) .below, c .before .before .before .before .pre .1 .1)
+
+-- its entry is written
+begun : (c : tie.After-entry Inv-loop μ-loop) → Walked (c .before .before .before .before .args .w .now) (c .before .before .before .before .args .turn .now) (c .before .before .before .before .args .p) (c .before .before .before .before .args .taken .now) 1 (set (c .before .before .before .before .args .part .now) 0 (c .entry .result)) (c .before .sums .result) 0 0
+begun c = let s = c .before .before .before .before in walked-start (s .args .w .now) (s .args .turn .now) (s .args .taken .now) (s .args .part .now) (s .args .p) (first (c .before)) (s .pre .1 .1) _ (c .entry .ensures)
+
+step-requires : tie.Need-step-requires Inv-loop μ-loop
+step-requires c κs = first-turns (c .before .if2 .taken) (begun (c .before .before .before))
+
+same-length : tie.Need-same-length Inv-loop μ-loop
+same-length c = simp length-set at (c .before .before .step .kept .1 .1 .1 .1 .1 .1 .1 .1 .0)
+
+returns : tie.Need-returns Inv-loop μ-loop
+returns c = walked-all (c .before .before .step .ensures) (let two = ap used (c .before .before .before .before .if2 .taken) in omega arith)
+
+same-length-2 : tie.Need-same-length-2 Inv-loop μ-loop
+same-length-2 c = search needs
+
+returns-2 : tie.Need-returns-2 Inv-loop μ-loop
+returns-2 c =
+    let few : c .before .before .before .before .before .before .args .p - 1 ≤ 0 = omega (arith, c .if2 .left) in
+    walked-all (begun (c .before .before)) (pow-mono few)
+
+entries-requires : tie.Need-entries-requires Inv-loop μ-loop
+entries-requires c κs = search needs
+
+three-requires : tie.Need-three-requires Inv-loop μ-loop
+three-requires c κs =
+    let h = begun (c .before .before .before) in
+    (omega (arith, c .before .before .if1 .left), refl, h .at .below, h)
+
+element-copy-out-q : tie.Need-element-copy-out-q Inv-loop μ-loop
+element-copy-out-q c = search needs
+
+loop-holds : tie.Need-loop-holds Inv-loop μ-loop
+loop-holds c = (omega arith, refl, refl, c .before .before .before .three .ensures)
+
+-- step n is one of the walk's
+below : (c : tie.In-loop Inv-loop μ-loop) → (c .before .loop .n < used (c .before .before .before .before .before .before .before .before .before .before .before .before .before .args .p)) × (used (c .before .before .before .before .before .before .before .before .before .before .before .before .before .args .p) ≤ 2048)
+below c = (omega (arith, c .loop-test .taken, c .before .before .before .before .before .before .before .entries .ensures), used-small _ (c .before .loop .inv .3 .at .few))
+
+digit-requires : tie.Need-digit-requires Inv-loop μ-loop
+digit-requires c κs = (c .before .loop .inv .0, omega (arith, below c))
+
+shr-from : tie.Need-shr-from Inv-loop μ-loop
+shr-from c = search needs
+
+step-requires-2 : tie.Need-step-requires-2 Inv-loop μ-loop
+step-requires-2 c κs =
+    let l = c .before .before .before .loop in
+    record { some = l .inv .0; below = below (c .before .before) .0; lowest = c .before .digit .ensures .0; side = and-one _; walked = l .inv .3 }
+
+shl-k : tie.Need-shl-k Inv-loop μ-loop
+shl-k c = search needs
+
+add-q : tie.Need-add-q Inv-loop μ-loop
+add-q c = search needs
+
+mul-q : tie.Need-mul-q Inv-loop μ-loop
+mul-q c = search needs
+
+element-copy-out-q-2 : tie.Need-element-copy-out-q-2 Inv-loop μ-loop
+element-copy-out-q-2 c = search needs
+
+three-requires-2 : tie.Need-three-requires-2 Inv-loop μ-loop
+three-requires-2 c κs =
+    let l = c .before .before .before .before .before .before .before .before .loop in
+    let d = c .before .before .before .before .before .before .digit in (
+      omega (arith, c .before .before .before .before .before .before .before .before .before .before .before .before .before .before .before .if1 .left),
+      l .inv .1,
+      below (c .before .before .before .before .before .before .before) .0,
+      rw (one-shl (d .result) (omega (arith, d .ensures .1))) (c .before .before .before .before .step2 .ensures),
+    )
+
+element-copy-out-q-3 : tie.Need-element-copy-out-q-3 Inv-loop μ-loop
+element-copy-out-q-3 c = search needs
+
+add-n : tie.Need-add-n Inv-loop μ-loop
+add-n c = omega (arith, below (c .before .before .before .before .before .before .before .before .before .before .before))
+
+loop-less : tie.Need-loop-less Inv-loop μ-loop
+loop-less c = omega (arith, c .before .before .before .before .before .before .before .before .before .before .before .loop-test .taken)
+
+loop-again : tie.Need-loop-again Inv-loop μ-loop
+loop-again c =
+    let l = c .before .before .before .before .before .before .before .before .before .before .before .before .loop in (
+      omega arith,
+      omega (arith, l .inv .1),
+      c .before .before .before .three2 .kept .1 .1 .1 .1 .1 .1 .0 ∙ c .before .before .before .before .before .before .before .before .step2 .kept .1 .1 .1 .1 .1 .1 .1 .1 .0 ∙ l .inv .2,
+      c .before .before .before .three2 .ensures,
+    )
+
+same-length-3 : tie.Need-same-length-3 Inv-loop μ-loop
+same-length-3 c = c .before .loop .inv .2 ∙ simp length-set at (c .before .before .before .before .before .three .kept .1 .1 .1 .1 .1 .1 .0)
+
+returns-3 : tie.Need-returns-3 Inv-loop μ-loop
+returns-3 c = walked-all (c .before .loop .inv .3) (omega (arith, c .loop-test .left, c .before .before .before .before .before .before .before .entries .ensures))
+
+pub pass-spec : {M : Type 1} → statement M
+pass-spec =
+    tie.close
+    (tie.spec
+    Inv-loop
+    μ-loop
+    sums-requires
+    entry-requires
+    slice-write-part
+    step-requires
+    same-length
+    returns
+    same-length-2
+    returns-2
+    entries-requires
+    three-requires
+    element-copy-out-q
+    loop-holds
+    digit-requires
+    shr-from
+    step-requires-2
+    shl-k
+    add-q
+    mul-q
+    element-copy-out-q-2
+    three-requires-2
+    element-copy-out-q-3
+    add-n
+    loop-less
+    loop-again
+    same-length-3
+    returns-3)

@@ -1,0 +1,4 @@
+pub mod Fields
+pub mod Tests
+pub mod Laws
+pub mod Cuts

@@ -1,0 +1,4 @@
+pub mod Reads
+pub mod Places
+pub mod Lists
+pub mod Ready

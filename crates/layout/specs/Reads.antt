@@ -1,0 +1,19 @@
+-- The reads that lie in a part of bytes one after the other.
+use Prim.Native.Nat.{ℕ, _≤_, _<_}
+use mathlib.Core.Path.{_≡_}
+use mathlib.Core.List.{List}
+use Rattle.meaning.specs.Block.{Matrix, afterReads, matrixFrom}
+use Rattle.meaning.proofs.Formed.{Sound}
+use Rattle.layout.specs.declared.Shape.{Shape}
+
+-- the matrix that they are
+abbrev pub matrixIn : Shape → List ℕ → Matrix
+matrixIn s reads = matrixFrom (s .size) (s .m) (s .n) reads
+
+-- what the checks of the header and the checks 5 to 7 leave: cells of two bytes, m and n within their limits, each read sound
+pub record Lawful (s : Shape) (reads : List ℕ) : Type 0 where
+  pub two : s .size ≡ 2
+  pub some-column : 0 < s .m
+  pub few-columns : s .m ≤ 1024
+  pub few-reads : s .n ≤ 1024
+  pub sound : (r : ℕ) → r < s .n → Sound (s .size) (s .m) (afterReads r reads)

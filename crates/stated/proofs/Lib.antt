@@ -1,0 +1,5 @@
+pub mod Searched
+pub mod Marks
+pub mod AtColumn
+pub mod Weighing
+pub mod Ours

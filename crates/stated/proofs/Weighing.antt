@@ -1,0 +1,69 @@
+-- The weight of the entries that disagree, column by column.
+use Prim.Native.Nat.{ℕ, _+_, _*_, _≤_, _<_, zero-le}
+use lib.Dec.{eqb}
+use mathlib.Core.Bool.{true, false, not}
+use mathlib.Core.List.{List}
+use mathlib.Core.Path.{_≡_, refl, sym, ap, ap₂, _∙_}
+use native.Mathlib.Nat.{le-trans}
+use native.Mathlib.Omega.{arith}
+use Rattle.meaning.specs.Numbers.{sumTo}
+use Rattle.meaning.specs.Block.{Matrix}
+use Rattle.meaning.specs.Active.{count, read, at}
+use Rattle.meaning.specs.Charge.{against, W}
+use Rattle.meaning.specs.Letters.{disagreement}
+use Rattle.meaning.specs.Judge.{statedCost, statedDivision, statedHaplotypes, wrongCost}
+use Rattle.meaning.proofs.Totals.{sum-ext, sum-bound}
+use Rattle.meaning.proofs.Sums.{column-sides}
+use Rattle.meaning.proofs.Bounds.{against-le}
+use Rattle.sums.proofs.Laws.{leaf-more}
+use Rattle.stated.specs.declared.ColumnAt.{ColumnAt}
+use Rattle.stated.specs.Stated.{StatedTally, Stands, againstOf}
+use Rattle.stated.proofs.AtColumn.{against-at}
+
+-- of column j, by sides
+abbrev pub weightAt : Matrix → List ℕ → ℕ → ℕ
+weightAt M a j = W M (statedDivision a) j false (statedHaplotypes a false j) + W M (statedDivision a) j true (statedHaplotypes a true j)
+
+-- 1,024 reads of weight 255 at most
+pub weight-small : (M : Matrix) (a tally : List ℕ) → StatedTally M a tally → (j : ℕ) → weightAt M a j ≤ 261120
+weight-small M a tally told j =
+    let each : (r : ℕ) → r < count M → against (statedHaplotypes a (statedDivision a r) j) (at (read M r) j) ≤ 255 =
+    λ r l. le-trans (against-le (statedHaplotypes a (statedDivision a r) j) (at (read M r) j)) (told .light r j l) in
+    omega (arith, told .few-reads, column-sides M (statedDivision a) j (λ s. statedHaplotypes a s j), sum-bound (count M) 255 each)
+
+-- the columns before j are weighed
+pub record WeighedTo (M : Matrix) (a : List ℕ) (m total j : ℕ) : Type 0 where
+  pub inside : j ≤ m
+  pub total-is : total ≡ sumTo j (weightAt M a)
+  pub small : total ≤ j * 261120
+
+module _ (M : Matrix) (a : List ℕ) (m : ℕ) where
+  pub weighed-none : WeighedTo M a m 0 0
+  unfolding sumTo
+  weighed-none = record { inside = zero-le; total-is = refl; small = zero-le }
+
+  module _ (total j : ℕ) (w : WeighedTo M a m total j) (l : j < m) (c : ColumnAt) (h : Stands M a j c) (light : weightAt M a j ≤ 261120)
+      (x y : ℕ) (first : x ≡ againstOf (c .first)) (second : y ≡ againstOf (c .second)) where
+    column-is : x + y ≡ weightAt M a j
+    column-is = ap₂ _+_ (first ∙ against-at M a j false (c .first) (h .first-stands)) (second ∙ against-at M a j true (c .second) (h .second-stands))
+
+    pub weighed-more : WeighedTo M a m (total + (x + y)) (j + 1)
+    weighed-more =
+        record {
+          inside = omega arith;
+          total-is = ap₂ _+_ (w .total-is) column-is ∙ sym (leaf-more j (weightAt M a));
+          small = omega (arith, w .small, column-is);
+        }
+
+  pub weighed-all : (total j : ℕ) → WeighedTo M a m total j → m ≡ M .columns → m ≤ j → total ≡ disagreement M (statedDivision a) (statedHaplotypes a)
+  unfolding disagreement
+  weighed-all total j w e l =
+      let k : j ≡ M .columns = omega (arith, w .inside) in
+      w .total-is
+      ∙ ap (λ (n : ℕ). sumTo n (weightAt M a)) k
+      ∙ sum-ext (M .columns) (λ i _. sym (column-sides M (statedDivision a) i (λ s. statedHaplotypes a s i)))
+
+-- what the code compares
+pub cost-told : (M : Matrix) (a : List ℕ) (x y : ℕ) → x ≡ statedCost a → y ≡ disagreement M (statedDivision a) (statedHaplotypes a) → not (eqb x y) ≡ wrongCost M a
+unfolding wrongCost
+cost-told M a x y p q = ap₂ (λ (u v : ℕ). not (eqb u v)) p q

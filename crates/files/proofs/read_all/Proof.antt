@@ -1,16 +1,25 @@
 -- `read_all` is safe and ends: each turn fills some of the room that is left. Assumes nothing.
 use borrow.Author.Needs.{needs}
-use Prim.Native.Nat.{_-_, _≤_}
-use mathlib.Core.Path.{_≡_}
+use native.Mathlib.Omega.{arith}
+use Prim.Native.Nat.{ℕ, _-_, _^_, _≤_, _<_}
+use mathlib.Core.Path.{_≡_, sym, subst}
 use lib.ListN.{length}
-use Rattle.judge.proofs.read_all.Statement.{statement}
-use Rattle.judge.proofs.read_all.Tie as tie
+use mir.Syntax.{w64}
+use mir.Val.{toZ}
+use mir.ValLaws.{toZ-pos}
+use Rattle.libc.specs.Io.{Moved}
+use Rattle.files.proofs.read_all.Statement.{statement}
+use Rattle.files.proofs.read_all.Tie as tie
 
 abbrev Inv-loop : tie.InvT-loop
-Inv-loop fd room₀ done₀ room done = (done ≤ length room) × (length room ≡ length room₀)
+Inv-loop fd room₀ done₀ room done = (done ≤ length room₀) × (length room ≡ length room₀)
 
 abbrev μ-loop : tie.MeasureT-loop
 μ-loop fd room₀ done₀ room done = length room - done
+
+-- so many bytes of the room, as the signed number that is returned
+within : (done room : ℕ) → done ≤ room → room < 2 ^ 63 → Moved room (toZ w64 done)
+within done room h l = subst (Moved room) (sym (toZ-pos w64 done (omega arith))) h
 
 loop-holds : tie.Need-loop-holds Inv-loop μ-loop
 loop-holds c = search needs
@@ -52,7 +61,10 @@ same-length-2 : tie.Need-same-length-2 Inv-loop μ-loop
 same-length-2 c = search needs
 
 returns-2 : tie.Need-returns-2 Inv-loop μ-loop
-returns-2 c = search needs
+returns-2 c =
+    let s = c .before .before .before .before .before .before .before .before .before .before .before .before in
+    let l = c .before .before .before .before .before .before .before .before .before .before .loop in
+    within (l .done) (length (s .args .room .now)) (l .inv .0) (s .pre)
 
 add-done : tie.Need-add-done Inv-loop μ-loop
 add-done c = search needs
@@ -70,7 +82,9 @@ same-length-3 : tie.Need-same-length-3 Inv-loop μ-loop
 same-length-3 c = search needs
 
 returns-3 : tie.Need-returns-3 Inv-loop μ-loop
-returns-3 c = search needs
+returns-3 c =
+    let s = c .before .before .before in
+    within (c .before .loop .done) (length (s .args .room .now)) (c .before .loop .inv .0) (s .pre)
 
 pub read-all-spec : {M : Type 1} → statement M
 read-all-spec =

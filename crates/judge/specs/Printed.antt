@@ -8,9 +8,9 @@ use Rattle.meaning.specs.Judge.{Judged, judging}
 use Rattle.text.specs.Text.{refusalText}
 use Rattle.text.specs.Verdict.{judgedText}
 
--- 16,384 work entries are lent
+-- 1,441,792 work entries are lent
 abbrev pub lent : List ℕ → List ℕ → Judged
-lent block answer = judging block answer (replicate 16384 0)
+lent block answer = judging block answer (replicate 1441792 0)
 
 -- 12, before all other checks: a file holds more than 65,536 bytes
 unfoldable pub printedVerdict : List ℕ → List ℕ → List ℕ

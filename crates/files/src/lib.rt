@@ -24,8 +24,8 @@ fn say_failed(program: &[u8], what: &[u8]) {
     os::fail(what);
 }
 
-// Reads to the end of the file, in as many parts as it comes, or until `room` is full: the number of bytes, or -1 if a read fails.
-pub fn read_all(fd: i32, room: &mut [u8]) -> isize
+// Reads to the end of the file, in as many parts as it comes in, or until `room` is full: the number of bytes, or -1 if a read fails.
+fn read_all(fd: i32, room: &mut [u8]) -> isize
     requires { ⌜ length (now room) < 2 ^ 63 ⌝ }
     ensures { λ r. ⌜ Moved (length (now (room .entry))) r ⌝ }
 {
@@ -44,7 +44,7 @@ pub fn read_all(fd: i32, room: &mut [u8]) -> isize
     done as isize
 }
 
-// Reads standard input as `read_all` does. Standard error says if it cannot be read.
+// Reads all of standard input, or as much as `room` takes: the number of bytes, or -1 if a read fails. Standard error then says so.
 pub fn read_input(program: &[u8], room: &mut [u8]) -> isize
     requires { ⌜ length (now room) < 2 ^ 63 ⌝ }
     ensures { λ r. ⌜ Moved (length (now (room .entry))) r ⌝ }

@@ -1,4 +1,4 @@
--- `read_all` is safe and ends: each turn fills some of the room that is left. Assumes nothing.
+-- `read_all` meets its contract, and ends: each turn fills some of the room that is left. Assumes nothing.
 use borrow.Author.Needs.{needs}
 use native.Mathlib.Omega.{arith}
 use Prim.Native.Nat.{ℕ, _-_, _^_, _≤_, _<_}

@@ -96,7 +96,7 @@ fn long(random: &mut Random, style: Style) -> Matrix {
 }
 
 /// A row with every letter exchanged.
-fn complement(row: &Row) -> Row {
+pub fn complement(row: &Row) -> Row {
     let cells = row.cells.iter().map(|cell| cell.map(|(letter, weight)| (1 - letter, weight)));
     Row { first: row.first, cells: cells.collect() }
 }

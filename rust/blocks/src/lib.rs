@@ -6,6 +6,6 @@ mod random;
 mod rows;
 
 pub use damage::Field;
-pub use kinds::Kind;
+pub use kinds::{Kind, complement};
 pub use random::Random;
 pub use rows::{Gaps, Style, Weights};

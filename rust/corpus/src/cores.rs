@@ -30,7 +30,7 @@ pub fn each<T: Sync, R: Send>(
         }
         done.into_iter().inspect(|_| progress.step()).collect()
     });
-    progress.end();
+    progress.clear();
     all.sort_by_key(|(i, _)| *i);
     all.into_iter().map(|(_, result)| result).collect()
 }

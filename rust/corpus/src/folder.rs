@@ -1,7 +1,8 @@
 //! The blocks and the answers of a folder.
 
+use crate::shown;
 use std::collections::BTreeMap;
-use std::ffi::{OsStr, OsString};
+use std::ffi::OsString;
 use std::path::{Path, PathBuf};
 use std::{fs, io};
 
@@ -11,21 +12,6 @@ pub struct Item {
     pub name: String,
     pub block: Option<PathBuf>,
     pub answer: Option<PathBuf>,
-}
-
-/// A name on one line and in one direction: what would break a line or turn it round is written out.
-pub fn shown(name: &OsStr) -> String {
-    let turns = |c: char| matches!(c, '\u{200e}' | '\u{200f}' | '\u{202a}'..='\u{202e}' | '\u{2066}'..='\u{2069}');
-    let breaks = |c: char| c.is_control() || matches!(c, '\u{2028}' | '\u{2029}');
-    let mut text = String::new();
-    for c in name.to_string_lossy().chars() {
-        if breaks(c) || turns(c) {
-            text.extend(c.escape_unicode());
-        } else {
-            text.push(c);
-        }
-    }
-    text
 }
 
 /// All blocks and answers of a folder, by name. Files with other endings are passed over.

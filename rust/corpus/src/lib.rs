@@ -1,19 +1,38 @@
-//! A folder of fragment blocks, `NAME.block`, and builders' answers to them, `NAME.answer`: judged through the proved
+//! A folder of fragment blocks, `NAME.block`, and builders' answers to them, `NAME.answer`: answered and judged through the proved
 //! library, and shown beside our answers on a page.
 
+mod answers;
+mod checksum;
 mod cores;
+mod date;
+mod file;
 mod folder;
 mod judge;
-mod make;
+mod new_file;
+mod numbers;
 mod outcome;
+mod part;
 mod progress;
 mod report;
+mod sha256;
+mod shown;
 mod tally;
+mod tsv;
 
-pub use folder::{Item, items, shown};
-pub use judge::{Judged, judge};
-pub use make::{Made, make};
+pub use answers::{Made, answers, put};
+pub use checksum::{Checksum, list};
+pub use cores::each;
+pub use date::utc;
+pub use file::{read, read_answer, read_block};
+pub use folder::{Item, items};
+pub use judge::{Judged, Wanted, judge};
+pub use new_file::NewFile;
+pub use numbers::Numbers;
 pub use outcome::Outcome;
+pub use part::Part;
 pub use progress::{Progress, bar};
-pub use report::page;
+pub use report::{About, SHEETS, report};
+pub use sha256::{hexadecimal, sha256};
+pub use shown::shown;
 pub use tally::Tally;
+pub use tsv::line;

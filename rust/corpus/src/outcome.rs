@@ -15,6 +15,11 @@ pub enum Outcome {
 }
 
 impl Outcome {
+    /// That a block or an answer cannot be read.
+    pub fn unreadable(what: &str, why: impl fmt::Display) -> Self {
+        Outcome::Unreadable(format!("the {what} cannot be read: {why}"))
+    }
+
     pub fn is_ours(&self) -> bool {
         *self == Outcome::Judged(Verdict::Ours)
     }

@@ -1,19 +1,28 @@
-//! The page that shows every answer that is not ours, beside ours. It needs nothing but itself: no script, no other file.
+//! The page that shows every answer that is not ours, beside ours. It needs no script and no picture, and up to so many answers
+//! no other file; more are cut into pages, with an index.
 //!
 //! Verdicts and costs are the library's, and so are our sides and letters. What a drawing marks, and what is added up below it,
 //! is read off the block and the answers.
 
+mod cell;
 mod columns;
 mod division;
 mod drawing;
 mod fields;
+mod files;
+mod page;
 mod sheet;
 
-use crate::{Judged, Outcome, Progress, Tally, cores};
-use std::fmt::Write;
+use crate::{Judged, NewFile, Outcome, Progress, Tally, cores, list};
+use files::{Files, Link};
+use page::Page;
+use std::io;
+use std::path::Path;
 
-const STYLE: &str = include_str!("report/page.css");
-const LEGEND: &str = include_str!("report/legend.html");
+pub use page::About;
+
+/// How many answers one page draws at most.
+pub const SHEETS: usize = 200;
 
 /// Text as it may stand in a page.
 fn escaped(text: &str) -> String {
@@ -36,51 +45,77 @@ fn counted(count: usize, what: &str) -> String {
     format!("{count} {what}{}", if count == 1 { "" } else { "s" })
 }
 
-fn head(title: &str) -> String {
-    format!(
-        "<!DOCTYPE html>\n<html lang=\"en\">\n<meta charset=\"utf-8\">\n\
-         <meta http-equiv=\"Content-Security-Policy\" content=\"default-src 'none'; style-src 'unsafe-inline'\">\n\
-         <meta name=\"viewport\" content=\"width=device-width\">\n<title>Answers judged: {title}</title>\n\
-         <style>\n{STYLE}</style>\n<h1>Answers judged: {title}</h1>\n"
-    )
-}
-
-/// How many got each verdict; those that none got are left out.
-fn counts(tally: &Tally) -> String {
-    let rows = tally.rows().filter(|(_, count)| *count > 0);
-    let rows: String = rows.map(|(words, count)| format!("<tr><td>{}<td>{count}\n", escaped(words))).collect();
-    let Tally { least, total, .. } = tally;
-    format!("<p>{least} of {total} are least (56 or 57).</p>\n<table class=\"counts\">\n{rows}</table>\n")
-}
-
-/// A line for each answer that is not ours, with the way to its drawing.
-fn contents(others: &[&Judged]) -> String {
-    let mut list = String::from("<h2>Not ours</h2>\n<table class=\"contents\">\n");
-    for (i, judged) in others.iter().enumerate() {
-        let (name, outcome) = (escaped(&judged.name), escaped(&judged.outcome.to_string()));
-        let name = if judged.bytes.is_some() { format!("<a href=\"#a{i}\">{name}</a>") } else { name };
-        let _ = writeln!(list, "<tr><td>{name}<td>{outcome}");
-    }
-    list + "</table>\n"
-}
-
-/// The drawings of an answer that was judged, with the number that leads there.
-fn drawn((number, judged): (usize, &Judged)) -> String {
+/// The sheet of an answer that is to be drawn.
+fn sheet((number, judged): &(usize, &Judged)) -> String {
     match (&judged.outcome, &judged.bytes) {
-        (Outcome::Judged(verdict), Some((block, answer))) => sheet::sheet(number, &judged.name, verdict, block, answer),
+        (Outcome::Judged(verdict), Some((block, answer))) => {
+            sheet::sheet(*number, &judged.name, verdict, block, answer)
+        }
         _ => String::new(),
     }
 }
 
-/// The page for a folder of this title. Answers that are not least come first.
-pub fn page(title: &str, judged: &[Judged], tally: &Tally) -> String {
-    let page = head(&escaped(title)) + &counts(tally);
+/// The answers that are not ours, those that are not least first.
+fn others(judged: &[Judged]) -> Vec<&Judged> {
     let mut others: Vec<&Judged> = judged.iter().filter(|judged| !judged.outcome.is_ours()).collect();
     others.sort_by_key(|judged| judged.outcome.is_least());
-    if others.is_empty() {
-        return page + "<p>Every answer is ours.</p>\n</html>\n";
+    others
+}
+
+/// What is reported, and where.
+struct Report<'a> {
+    about: &'a About,
+    others: &'a [&'a Judged],
+    /// those that are drawn, numbered
+    drawn: Vec<(usize, &'a Judged)>,
+    files: Files,
+    progress: Progress,
+}
+
+impl Report<'_> {
+    /// The sheets of a page, counted from 1.
+    fn sheets(&mut self, number: usize) -> String {
+        let drawn = self.drawn.chunks(SHEETS).nth(number - 1).unwrap_or_default();
+        cores::each(drawn, &mut self.progress, |drawn, _| sheet(drawn)).concat()
     }
-    let numbered: Vec<(usize, &Judged)> = others.iter().copied().enumerate().collect();
-    let sheets = cores::each(&numbered, &mut Progress::new(others.len()), |numbered, _| drawn(*numbered));
-    page + &contents(&others) + LEGEND + &sheets.concat() + "</html>\n"
+
+    /// Draws all on the page itself.
+    fn on_one(&mut self, page: &mut Page, sums: &str) {
+        page.sums(sums, None);
+        page.contents(self.others, &self.files);
+        page.sheets(&self.sheets(1));
+    }
+
+    /// Makes the page an index, and draws on pages beside it.
+    fn on_many(&mut self, page: &mut Page, sums: &str) -> io::Result<()> {
+        page.sums(sums, Some(&self.files.href(Link::Sums)));
+        page.list(&self.files);
+        page.contents(self.others, &self.files);
+        NewFile::create(&self.files.path(Link::Sums))?.write(sums.as_bytes())?;
+        for number in 1..=self.files.pages() {
+            let file = NewFile::create(&self.files.path(Link::Page(number)))?;
+            let mut page = Page::new(self.about, Some((number, self.files.pages())));
+            page.ways(&self.files, number);
+            page.sheets(&self.sheets(number));
+            page.ways(&self.files, number);
+            file.write(page.end().as_bytes())?;
+        }
+        Ok(())
+    }
+}
+
+/// Writes the page of a folder into a file that was begun at this path, and the pages that it leads to beside it.
+pub fn report(file: NewFile, path: &Path, about: &About, judged: &[Judged], tally: &Tally) -> io::Result<()> {
+    let others = others(judged);
+    let drawn: Vec<(usize, &Judged)> =
+        others.iter().copied().filter(|judged| judged.bytes.is_some()).enumerate().collect();
+    let (files, progress) = (Files::new(path, drawn.len()), Progress::new(drawn.len()));
+    let mut report = Report { about, others: &others, drawn, files, progress };
+    let (mut page, sums) = (Page::new(about, None), list(judged));
+    page.counts(tally);
+    match report.files.pages() {
+        1 => report.on_one(&mut page, &sums),
+        _ => report.on_many(&mut page, &sums)?,
+    }
+    file.write(page.end().as_bytes())
 }

@@ -2,23 +2,13 @@
 
 use blocks::{Field, Kind, Random};
 use differential::{Builder, Case, Judging};
-use velejume::Answer;
 
-/// An answer as document 01's answer block lays it out, from byte 5 on.
-fn laid(answer: &Answer) -> Vec<u8> {
-    let [first, second] = &answer.haplotypes;
-    let numbers = [answer.cost.to_be_bytes(), answer.flips.to_be_bytes()].concat();
-    let sizes = [(answer.sides.len() as u16).to_be_bytes(), (first.len() as u16).to_be_bytes()].concat();
-    let letters: Vec<u8> = first.iter().chain(second).map(|&letter| letter as u8).collect();
-    [numbers, sizes, answer.sides.clone(), letters].concat()
-}
-
-/// What the solver gives in rooms of just the size: the table and the answer block from byte 5 on, or the numbers.
+/// What the solver gives in rooms of just the size: the table and the answer block, or the numbers.
 fn solved(block: &[u8]) -> Result<(Vec<u32>, Vec<u8>), (u32, u32)> {
     let (entries, length) = solver::rooms(block)?;
     let (mut work, mut out) = (vec![0; entries], vec![0; length]);
     assert_eq!(solver::columns(block, &mut work, &mut out).0, 0, "the rooms suffice");
-    Ok((work, out[5..].to_vec()))
+    Ok((work, out))
 }
 
 #[test]
@@ -33,7 +23,7 @@ fn the_wrapper_gives_the_solvers_answers_and_refusals() {
             (Ok(answer), Ok((table, bytes))) => {
                 answers += 1;
                 assert_eq!(answer.table.entries(), table, "{block:?}");
-                assert_eq!(laid(&answer), bytes, "{block:?}");
+                assert_eq!(answer.block(), bytes, "{block:?}");
             }
             (Err(refusal), Err(numbers)) => {
                 refusals[numbers.0 as usize] += 1;

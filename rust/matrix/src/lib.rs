@@ -1,6 +1,6 @@
 //! Document 01's matrix notation, and the fragment block that a matrix stands for.
 //!
-//! Rows are separated by `/`, entries by blanks or newlines. `0:5` is letter 0 of weight 5, `.` a hole or no cell. Dots before
+//! Rows are separated by `/` or by a newline, entries by blanks. `0:5` is letter 0 of weight 5, `.` a hole or no cell. Dots before
 //! the first and after the last entry of a row are no cells; a row of dots alone is a read with c = 0. The longest row says
 //! how many columns there are, unless they are given.
 //!
@@ -8,9 +8,11 @@
 //! let matrix = matrix::parse("0:5 . / 1:3 0:2 / 1:6 1:1 / . 0:2", None).unwrap();
 //! assert_eq!(matrix.block().len(), 37);
 //! assert_eq!(matrix.to_string(), "0:5 . /\n1:3 0:2 /\n1:6 1:1 /\n. 0:2\n");
+//! assert_eq!(matrix::parse("0:5 .\n1:3 0:2\n1:6 1:1\n. 0:2", None), Ok(matrix));
 //! ```
 
 mod block;
+mod counts;
 mod text;
 
 pub use block::set_length;

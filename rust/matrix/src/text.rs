@@ -71,10 +71,23 @@ fn row(cells: &[Cell]) -> Row {
     }
 }
 
+/// The rows of a text: `/`, a newline or both lie between two. A blank line between rows is no row, nothing between two `/` an
+/// empty one.
+fn rows(text: &str) -> Vec<&str> {
+    let mut rows = Vec::new();
+    for part in text.split('/') {
+        let before = rows.len();
+        rows.extend(part.lines().filter(|line| !line.trim().is_empty()));
+        if rows.len() == before {
+            rows.push("");
+        }
+    }
+    rows
+}
+
 /// The matrix that a text stands for. Columns that no row reaches have to be given.
 pub fn parse(text: &str, columns: Option<usize>) -> Result<Matrix, Fault> {
-    let text = text.trim();
-    let texts = if text.is_empty() { Vec::new() } else { text.split('/').collect() };
+    let texts = if text.trim().is_empty() { Vec::new() } else { rows(text) };
     let lines = texts.iter().enumerate().map(|(i, text)| line(i + 1, text));
     let lines = lines.collect::<Result<Vec<_>, _>>()?;
     let longest = lines.iter().map(Vec::len).max();

@@ -52,6 +52,31 @@ fn columns_after_the_longest_row_are_given() {
 }
 
 #[test]
+fn a_newline_between_rows_is_as_a_slash() {
+    let slashes = parse("0:5 . / 1:3 0:2 / . 0:2", None);
+    for text in [
+        "0:5 .\n1:3 0:2\n. 0:2",
+        "0:5 .\n1:3 0:2\n. 0:2\n",
+        "0:5 . /\n1:3 0:2 /\n. 0:2\n",
+        "0:5 .\n/ 1:3 0:2\n/ . 0:2",
+        "\n\n0:5 .\n \n1:3 0:2 / . 0:2\n\n",
+        "0:5 .\r\n1:3 0:2\r\n. 0:2\r\n",
+    ] {
+        assert_eq!(parse(text, None), slashes, "{text:?}");
+    }
+    assert_ne!(parse("0:5\n. / 1:3 0:2 / . 0:2", None), slashes, "a row does not go on in the next line");
+}
+
+#[test]
+fn active_reads_and_gaps_are_counted() {
+    let counts = |text: &str| parse(text, None).map(|matrix| (matrix.most_active(), matrix.with_gaps())).unwrap();
+    assert_eq!(counts("0:4 . 1:3 / . 0:5 . / . . 1:5"), (2, 1));
+    assert_eq!(counts("0:4 1:3 . / . . 0:1 / . ."), (1, 0));
+    assert_eq!(counts(". . ."), (0, 0));
+    assert_eq!(counts(&vec!["0:1 . . 1:0"; 13].join("\n")), (13, 13));
+}
+
+#[test]
 fn dots_are_holes_only_between_entries() {
     let matrix = parse(". . 0:1 . 1:2 . / . 0:0", None).unwrap();
     assert_eq!(matrix.rows[0].first, 2);
@@ -72,6 +97,9 @@ fn a_text_that_is_no_matrix_is_refused_with_its_place() {
         ("0:05", "row 1, entry 1: '0:05' is neither"),
         ("0:5 / / 0:5", "row 2 is empty"),
         ("0:5 /", "row 2 is empty"),
+        ("0:5 /\n/\n0:5", "row 2 is empty"),
+        ("/ 0:5", "row 1 is empty"),
+        ("0:5\n0:5\n1:3 x", "row 3, entry 2: 'x' is neither"),
         (" \n", "no row says how many columns"),
         (&rows, "1025 rows"),
         (&long, "1025 columns"),

@@ -1,6 +1,7 @@
 //! The fragment block, and refusals 1 to 8.
 
 use crate::Numbers;
+use std::ops::Range;
 
 /// Where a read lies: the columns from `first` to before `end`, and its cells in the block.
 #[derive(Clone, Copy)]
@@ -84,6 +85,11 @@ impl<'a> Block<'a> {
         Ok(Block { bytes, columns, reads })
     }
 
+    /// The same matrix with other reads, which are parts of its own.
+    pub(crate) fn with_reads(&self, reads: Vec<Read>) -> Self {
+        Block { bytes: self.bytes, columns: self.columns, reads }
+    }
+
     /// The cells of a read, two bytes each, as they stand in the block.
     pub fn cells(&self, read: &Read) -> &'a [u8] {
         &self.bytes[read.at as usize..][..2 * read.c()]
@@ -100,6 +106,12 @@ impl<'a> Block<'a> {
 }
 
 impl Read {
+    /// The part of the read from one of its cells to before another.
+    pub(crate) fn part(&self, cells: Range<usize>) -> Self {
+        let column = |cell: usize| self.first + cell as u16;
+        Read { first: column(cells.start), end: column(cells.end), at: self.at + 2 * cells.start as u32 }
+    }
+
     /// How many cells the read has.
     pub fn c(&self) -> usize {
         usize::from(self.end - self.first)

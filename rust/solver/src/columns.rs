@@ -3,6 +3,7 @@
 
 mod back;
 mod carry;
+mod forgetful;
 mod letters;
 mod pile;
 mod walk;
@@ -10,6 +11,8 @@ mod walk;
 use crate::checks::{Placed, entries};
 use crate::{Block, Numbers, answer};
 use pile::Pile;
+
+pub use forgetful::forgetful;
 
 /// Phases a block by columns, in time that grows with the bytes of the block and the entries of the table.
 pub fn columns(bytes: &[u8], work: &mut [u32], out: &mut [u8]) -> Numbers {

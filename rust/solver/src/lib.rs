@@ -4,6 +4,8 @@
 //! method, written for speed, and [`walk`] the same with one entry at each step. All take the rooms that the proved call takes and leave in them what
 //! document 01 says, entry by entry and byte by byte. [`judge`] judges a builder's answer by either, as
 //! document 02 says.
+//!
+//! [`forgetful`] is no solver to rely on: it has a fault on purpose, for suites that have to find it.
 
 mod answer;
 mod block;
@@ -15,7 +17,7 @@ mod stated;
 
 pub use block::{Block, Read};
 pub use checks::rooms;
-pub use columns::{columns, walk};
+pub use columns::{columns, forgetful, walk};
 pub use exhaustive::exhaustive;
 pub use judge::{Phase, judge};
 pub use stated::Stated;

@@ -85,6 +85,20 @@ impl Answer {
             table: Table { entries: work, columns },
         }
     }
+
+    /// The answer block, byte for byte as the library wrote it.
+    pub fn block(&self) -> Vec<u8> {
+        let letters = self.haplotypes.iter().flatten().map(|&letter| letter as u8);
+        let marks: Vec<u8> = self.sides.iter().copied().chain(letters).collect();
+        let mut block = vec![VERSION];
+        block.extend((12 + marks.len() as u32).to_be_bytes());
+        block.extend(self.cost.to_be_bytes());
+        block.extend(self.flips.to_be_bytes());
+        block.extend((self.sides.len() as u16).to_be_bytes());
+        block.extend((self.haplotypes[0].len() as u16).to_be_bytes());
+        block.extend(marks);
+        block
+    }
 }
 
 fn line<T: fmt::Display>(f: &mut fmt::Formatter, name: &str, items: &[T]) -> fmt::Result {

@@ -38,6 +38,9 @@ pub const WORK_ENTRIES: usize = 1024 * 2048;
 /// Output bytes that suffice for every block: 1,024 reads and 1,024 columns.
 pub const OUTPUT_BYTES: usize = 17 + 1024 + 2 * 1024;
 
+/// Bytes that no fragment block of a matrix exceeds: 1,024 reads of 1,024 cells, two bytes a cell in version 1.
+pub const BLOCK_BYTES: usize = 9 + 1024 * (4 + 2 * 1024);
+
 /// Phases a fragment block. The rooms are as large as the call itself says that it needs.
 ///
 /// ```

@@ -52,3 +52,11 @@ fn rooms_that_are_too_small_are_refused_with_their_need() {
     assert_eq!(out.to_string(), "output below 17 + n + 2m = 25 bytes");
     assert!(phase_in(&block, &mut [0; 6], &mut [0; 25]).cost().is_ok());
 }
+
+#[test]
+fn a_block_of_a_matrix_has_no_more_bytes_than_is_said() {
+    let rows = vec![vec!["0:1"; 1024].join(" "); 1024].join("/");
+    let block = parse(&rows, None).unwrap().block();
+    assert_eq!(block.len(), velejume::BLOCK_BYTES);
+    assert_eq!(phase(&block), Err(Refusal::Active { column: 0 }), "it passes the checks before");
+}

@@ -1,8 +1,8 @@
 //! One division of a matrix, drawn: both sides with their haplotypes and their reads.
 
 use super::columns::Place;
-use super::counted;
 use super::division::{Division, Marks};
+use super::{cell, counted};
 use matrix::{Matrix, Row};
 
 /// How many reads without cells are named at most.
@@ -54,16 +54,13 @@ impl Drawing<'_> {
 
     /// A haplotype's letters. One that differs from the letter beside is marked, and so is a `-` where the sums differ.
     fn haplotype(&self, side: usize) -> String {
-        let letters = self.places.iter().map(|place| {
-            let &Place::Column(column) = place else {
-                return "<td class=\"out\">".to_string();
-            };
-            let letter = self.division.letters[side][column];
-            let differs = self.beside.is_some_and(|beside| beside.letters[side][column] != letter);
-            let mut class = ["l0", "l1", "tie"][usize::from(letter)].to_string();
-            class += if differs { " other" } else { "" };
-            class += if self.marks.false_dashes.contains(&(side, column)) { " wrong" } else { "" };
-            format!("<td class=\"{class}\">{}", ["0", "1", "-"][usize::from(letter)])
+        let letters = self.places.iter().map(|place| match *place {
+            Place::LeftOut(_) => cell::left_out(false),
+            Place::Column(column) => {
+                let letter = self.division.letters[side][column];
+                let other = self.beside.is_some_and(|beside| beside.letters[side][column] != letter);
+                cell::letter(letter, other, self.marks.false_dashes.contains(&(side, column)))
+            }
         });
         format!("<tr class=\"hap\"><th>haplotype {}{}\n", side + 1, letters.collect::<String>())
     }
@@ -72,20 +69,16 @@ impl Drawing<'_> {
     fn cell(&self, read: usize, column: usize) -> String {
         let row = &self.matrix.rows[read];
         match column.checked_sub(row.first).and_then(|i| row.cells.get(i)) {
-            None => "<td>".to_string(),
-            Some(None) => "<td class=\"hole\">".to_string(),
-            Some(&Some((letter, weight))) => {
-                let wrong = if self.division.disagrees(read, column, letter) { " wrong" } else { "" };
-                format!("<td class=\"l{letter}{wrong}\">{letter}<small>{weight}</small>")
-            }
+            None => cell::nothing(),
+            Some(None) => cell::hole(),
+            Some(&Some((letter, weight))) => cell::entry(letter, weight, self.division.disagrees(read, column, letter)),
         }
     }
 
     fn read(&self, read: usize) -> String {
         let cells = self.places.iter().map(|place| match place {
             Place::Column(column) => self.cell(read, *column),
-            Place::LeftOut(columns) if active(&self.matrix.rows[read], columns) => "<td class=\"out on\">".to_string(),
-            Place::LeftOut(_) => "<td class=\"out\">".to_string(),
+            Place::LeftOut(columns) => cell::left_out(active(&self.matrix.rows[read], columns)),
         });
         format!("<tr><th>{}{}\n", self.name(read), cells.collect::<String>())
     }

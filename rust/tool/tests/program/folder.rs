@@ -1,9 +1,10 @@
-//! The program `corpus`, run over folders.
+//! `velejume judge FOLDER`: lines, the table, the status.
 
-mod common;
-
-use common::{P2, P2_OURS, answer, block, folder, put, run};
+use crate::common::{P2, P2_OURS, answer, block, folder, put, run};
+use crate::words;
+use std::ffi::OsStr;
 use std::fs;
+use std::os::unix::ffi::OsStrExt;
 
 /// The counts of the table at the end, from verdict 50 on, then refused, without answer, without block, unreadable.
 fn counts(output: &str) -> Vec<usize> {
@@ -19,7 +20,7 @@ fn our_answers_get_no_line_and_status_0() {
     put(&folder, "one", P2, P2_OURS);
     put(&folder, "two", "0:7", "0, 9, 0, 0, -");
     fs::write(folder.join("notes.txt"), "neither block nor answer").unwrap();
-    let (output, error, status) = run(&[&folder]);
+    let (output, error, status) = run(&words!["judge", &folder]);
     let table = "\
 50 malformed                                                0
 51 other n or m                                             0
@@ -43,7 +44,7 @@ fn other_least_answers_get_a_line_and_status_0() {
     let folder = folder("others");
     put(&folder, "exchanged", P2, "3, 1, 110, 111, 000");
     put(&folder, "ours", P2, P2_OURS);
-    let (output, error, status) = run(&[&folder]);
+    let (output, error, status) = run(&words!["judge", &folder]);
     assert!(output.starts_with("exchanged: 56 least but other sides or letters than ours\n\n50 "), "{output}");
     assert_eq!(counts(&output), [0, 0, 0, 0, 0, 0, 1, 1, 0, 0, 0, 0]);
     assert_eq!((error.as_str(), status), ("", 0));
@@ -70,7 +71,7 @@ fn each_fault_gets_its_line_in_order_of_names_and_status_1() {
     fs::write(folder.join("j.answer"), answer(P2_OURS)).unwrap();
     fs::create_dir(folder.join("k.block")).unwrap();
     fs::write(folder.join("k.answer"), answer(P2_OURS)).unwrap();
-    let (output, error, status) = run(&[&folder]);
+    let (output, error, status) = run(&words!["judge", &folder]);
     let lines = "\
 a: 50 malformed
 b: 51 other n or m
@@ -99,9 +100,9 @@ fn one_fault_of_any_kind_is_enough_for_status_1() {
     for (i, (file, bytes)) in kinds.into_iter().enumerate() {
         let folder = folder(&format!("one-fault-{i}"));
         put(&folder, "ours", P2, P2_OURS);
-        assert_eq!(run(&[&folder]).2, 0);
+        assert_eq!(run(&words!["judge", &folder]).2, 0);
         fs::write(folder.join(file), bytes).unwrap();
-        assert_eq!(run(&[&folder]).2, 1, "{file}");
+        assert_eq!(run(&words!["judge", &folder]).2, 1, "{file}");
     }
 }
 
@@ -113,7 +114,7 @@ fn many_answers_on_all_cores_each_get_their_own_line() {
         let words = if i % 5 == 0 { format!("{cost}, 1, 00, 1, -") } else { "0, 0, 01, 0, 1".to_string() };
         put(&folder, &format!("{i:03}"), &matrix, &words);
     }
-    let (output, _, status) = run(&[&folder]);
+    let (output, _, status) = run(&words!["judge", &folder]);
     let lines: Vec<&str> = output.lines().take_while(|line| !line.is_empty()).collect();
     let wanted: Vec<String> =
         (0..500).step_by(5).map(|i| format!("{i:03}: 55 not least: the least cost is 0")).collect();
@@ -130,7 +131,7 @@ fn the_largest_block_finds_room() {
     let ones = "1".repeat(1024);
     let words = format!("0, 0, {}, {ones}, {}", "0".repeat(1024), "-".repeat(1024));
     put(&folder, "largest", &rows.join("/"), &words);
-    let (output, _, status) = run(&[&folder]);
+    let (output, _, status) = run(&words!["judge", &folder]);
     assert_eq!((counts(&output)[7], status), (1, 0), "{output}");
 }
 
@@ -138,45 +139,33 @@ fn the_largest_block_finds_room() {
 fn a_name_stays_on_its_line() {
     let folder = folder("names");
     put(&folder, "two\nlines \u{202e}turned", P2, "0, 1, 001, 000, 111");
-    let (output, _, _) = run(&[&folder]);
+    let (output, _, _) = run(&words!["judge", &folder]);
     assert!(output.starts_with("two\\u{a}lines \\u{202e}turned: 54 "), "{output}");
 }
 
 #[test]
-fn a_folder_that_cannot_be_read_and_one_with_nothing_in_it_get_status_2() {
-    let (output, error, status) = run(&["no such folder"]);
-    assert_eq!((output.as_str(), status), ("", 2));
-    assert!(error.starts_with("corpus: no such folder cannot be read: "), "{error}");
-    let folder = folder("nothing");
-    let (output, error, status) = run(&[&folder]);
-    assert_eq!((output.as_str(), status), ("", 2));
-    assert!(error.ends_with("nothing holds no NAME.block and no NAME.answer\n"), "{error}");
-}
-
-#[test]
-fn other_words_get_the_usage_and_status_2() {
-    let wrong: [(&[&str], &str); 7] = [
-        (&[], "no folder is given"),
-        (&["a", "b"], "one folder at a time"),
-        (&["--what", "a"], "there is no option --what"),
-        (&["--report"], "--report needs a file"),
-        (&["--report", "page.html"], "no folder is given"),
-        (&["--report", "a.block", "a"], "a.block does not end in .html"),
-        (&["--make", "--report", "page.html", "a"], "--make writes no report"),
-    ];
-    for (words, message) in wrong {
-        let (output, error, status) = run(words);
-        assert_eq!((output.as_str(), status), ("", 2), "{words:?}");
-        assert!(error.starts_with(&format!("corpus: {message}\nusage: corpus")), "{error}");
+fn names_that_are_no_utf_8_are_told_apart() {
+    let folder = folder("names-no-utf-8");
+    for name in [&b"caf\xe9"[..], b"caf\xe8", b"caf\\xe9"] {
+        let at = |ending: &[u8]| folder.join(OsStr::from_bytes(&[name, ending].concat()));
+        fs::write(at(b".block"), block(P2)).unwrap();
+        fs::write(at(b".answer"), answer("0, 1, 001, 000, 111")).unwrap();
     }
-    let (output, error, status) = run(&["--help"]);
-    assert!(output.starts_with("usage: corpus") && error.is_empty() && status == 0);
+    let (output, _, _) = run(&words!["judge", &folder]);
+    let names: Vec<&str> = output.lines().take(3).map(|line| line.split_once(": 54 ").unwrap().0).collect();
+    assert_eq!(names, ["caf\\\\xe9", "caf\\xe8", "caf\\xe9"]);
+    let missing = folder.join(OsStr::from_bytes(b"\xff\n"));
+    let (_, error, status) = run(&words!["judge", &missing]);
+    assert!(error.contains("\\xff\\u{a}: cannot be read: ") && status == 2, "{error}");
 }
 
 #[test]
-fn the_bar_grows_from_empty_to_full() {
-    assert_eq!(corpus::bar(0, 8), format!("[{}] 0 of 8", ".".repeat(40)));
-    assert_eq!(corpus::bar(2, 8), format!("[{}{}] 2 of 8", "#".repeat(10), ".".repeat(30)));
-    assert_eq!(corpus::bar(8, 8), format!("[{}] 8 of 8", "#".repeat(40)));
-    assert_eq!(corpus::bar(0, 0), format!("[{}] 0 of 0", ".".repeat(40)));
+fn a_folder_that_cannot_be_read_and_one_with_nothing_in_it_get_status_2() {
+    let (output, error, status) = run(&["judge", "no such folder"]);
+    assert_eq!((output.as_str(), status), ("", 2));
+    assert!(error.starts_with("velejume judge: no such folder: cannot be read: "), "{error}");
+    let folder = folder("nothing");
+    let (output, error, status) = run(&words!["judge", &folder]);
+    assert_eq!((output.as_str(), status), ("", 2));
+    assert!(error.ends_with("nothing: holds no NAME.block and no NAME.answer\n"), "{error}");
 }

@@ -1,14 +1,12 @@
-//! `corpus --make`: our answers written for a folder of blocks.
+//! `velejume answers`: our answers written for a folder of blocks.
 
-mod common;
-
-use common::{P2, P2_OURS, answer, block, folder, run};
-use std::ffi::OsStr;
+use crate::common::{P2, P2_OURS, answer, block, folder, run};
+use crate::words;
 use std::fs;
 use std::path::Path;
 
 fn make(folder: &Path) -> (String, String, i32) {
-    run(&[OsStr::new("--make"), folder.as_os_str()])
+    run(&words!["answers", folder])
 }
 
 #[test]
@@ -19,7 +17,7 @@ fn the_answers_written_are_ours() {
     assert_eq!(make(&folder), ("2 written, 0 there already, 0 not ours\n".to_string(), String::new(), 0));
     assert_eq!(fs::read(folder.join("p2.answer")).unwrap(), answer(P2_OURS));
     assert_eq!(fs::read(folder.join("empty.answer")).unwrap(), answer("0, 0, 00, 0, -"));
-    let (output, _, status) = run(&[&folder]);
+    let (output, _, status) = run(&words!["judge", &folder]);
     assert!(output.ends_with("2 of 2 are least (56 or 57)\n") && status == 0, "{output}");
     assert_eq!(make(&folder), ("0 written, 2 there already, 0 not ours\n".to_string(), String::new(), 0));
 }
@@ -55,6 +53,6 @@ fn a_folder_without_blocks_gets_status_2() {
     fs::write(folder.join("b.answer"), answer(P2_OURS)).unwrap();
     let (output, error, status) = make(&folder);
     assert_eq!((output.as_str(), status), ("", 2));
-    assert!(error.ends_with("made-nothing holds no NAME.block\n"), "{error}");
+    assert!(error.ends_with("made-nothing: holds no NAME.block\n"), "{error}");
     assert_eq!(make(Path::new("no such folder")).2, 2);
 }

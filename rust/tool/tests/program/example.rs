@@ -1,8 +1,7 @@
 //! The example corpus against its README, whose verdicts are worked out by hand.
 
-mod common;
-
-use common::{answer, block, run};
+use crate::common::{answer, block, run};
+use crate::words;
 use std::collections::BTreeSet;
 use std::fs;
 use std::path::{Path, PathBuf};
@@ -48,7 +47,7 @@ fn the_readme_has_every_file_and_every_verdict_and_half_have_gaps() {
 
 #[test]
 fn the_program_says_the_same_of_the_folder() {
-    let (output, error, status) = run(&[folder()]);
+    let (output, error, status) = run(&words!["judge", folder()]);
     let ours = rows().iter().filter(|row| row[3] == "57").count();
     let lines: Vec<&str> = output.lines().take_while(|line| !line.is_empty()).collect();
     assert_eq!(lines.len(), rows().len() - ours);

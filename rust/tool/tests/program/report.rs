@@ -1,16 +1,14 @@
 //! The page for a builder: what it shows, what it leaves out, and that it needs nothing but itself.
 
-mod common;
-
-use common::{P2, P2_OURS, answer, block, folder, put, run};
-use std::ffi::OsStr;
+use crate::common::{P2, P2_OURS, answer, block, folder, names, put, run};
+use crate::words;
 use std::fs;
-use std::path::Path;
+use std::path::{Path, PathBuf};
 
 /// The page for a folder, written by the program.
 fn page(folder: &Path) -> String {
     let file = folder.join("page.html");
-    let (_, error, status) = run(&[OsStr::new("--report"), file.as_os_str(), folder.as_os_str()]);
+    let (_, error, status) = run(&words!["judge", "--report", &file, folder]);
     assert!(error.is_empty() && status < 2, "{error}");
     fs::read_to_string(file).unwrap()
 }
@@ -39,8 +37,7 @@ fn holds(text: &str, parts: &[&str]) {
 fn a_forgotten_pair_is_drawn_with_its_gap_and_what_disagrees() {
     let page = page_of("pair", P2, "0, 0, 001, 000, 111");
     holds(&page, &["<b>54</b> stated cost not the weight of disagreeing entries", "3 reads, 3 columns."]);
-    let pair =
-        "<tr><th>read 0<td class=\"l0\">0<small>4</small><td class=\"hole\"><td class=\"l1 wrong\">1<small>3</small>\n";
+    let pair = "<tr><th>read 0<td class=\"l0\">0<small>:4</small><td class=\"hole\"><td class=\"l1 wrong\">1<small>:3</small><i>≠</i>\n";
     let haplotypes = [
         "<th>haplotype 1<td class=\"l0\">0<td class=\"l0\">0<td class=\"l0\">0\n",
         "<th>haplotype 2<td class=\"l1\">1<td class=\"l1\">1<td class=\"l1\">1\n",
@@ -62,8 +59,11 @@ fn reads_on_other_sides_and_other_letters_are_marked_in_both() {
     holds(&page, &["<b>55</b> not least: the least cost is 3"]);
     holds(&page, &["Reads on another side than in ours: 1. Letters other than ours: 0."]);
     let [builder, ours] = figures(&page);
-    holds(builder, &["<b>read 0 ⇄</b><td class=\"l0 wrong\">0<small>4</small>", "1 entry disagrees, weight 4."]);
-    holds(ours, &["<b>read 0 ⇄</b><td class=\"l0\">0<small>4</small>", "1 entry disagrees, weight 3."]);
+    holds(
+        builder,
+        &["<b>read 0 ⇄</b><td class=\"l0 wrong\">0<small>:4</small><i>≠</i>", "1 entry disagrees, weight 4."],
+    );
+    holds(ours, &["<b>read 0 ⇄</b><td class=\"l0\">0<small>:4</small>", "1 entry disagrees, weight 3."]);
     assert_eq!(page.matches("⇄</b><td class=\"l").count(), 2);
     let page = page_of("tie", "0:5 . / 1:3 0:2 / 1:6 1:1 / . 0:2", "1, 1, 1000, 10, 01");
     holds(&page, &["<b>56</b> least but other sides or letters than ours"]);
@@ -81,16 +81,16 @@ fn no_entry_is_marked_at_a_dash_and_a_false_dash_is() {
     let page = page_of("false-dash", P2, "3, 1, 001, 00-, 111");
     let [builder, ours] = figures(&page);
     holds(&page, &["<b>53</b> a - where that side&#39;s sums differ"]);
-    holds(builder, &["<td class=\"tie other wrong\">-\n", "<td class=\"l1\">1<small>3</small>"]);
-    holds(ours, &["<td class=\"l1 wrong\">1<small>3</small>"]);
+    holds(builder, &["<td class=\"tie other wrong\">-<i>≠</i>\n", "<td class=\"l1\">1<small>:3</small>"]);
+    holds(ours, &["<td class=\"l1 wrong\">1<small>:3</small><i>≠</i>"]);
 }
 
 #[test]
 fn absent_cells_are_blank_and_reads_without_cells_are_named() {
     let page = page_of("blank", ". / . 0:7 . / 1:1 . 1:1", "0, 0, 101, 000, 111");
     let [builder, ours] = figures(&page);
-    holds(builder, &["<tr><th>read 1<td><td class=\"l0\">0<small>7</small><td>\n"]);
-    holds(builder, &["<tr><th><b>read 2 ⇄</b><td class=\"l1\">1<small>1</small><td class=\"hole\"><td class=\"l1\">"]);
+    holds(builder, &["<tr><th>read 1<td><td class=\"l0\">0<small>:7</small><td>\n"]);
+    holds(builder, &["<tr><th><b>read 2 ⇄</b><td class=\"l1\">1<small>:1</small><td class=\"hole\"><td class=\"l1\">"]);
     assert!(builder.find("side 1").unwrap() < builder.find("without cells: <b>read 0 ⇄</b>").unwrap());
     assert!(ours.find("without cells: <b>read 0 ⇄</b>").unwrap() < ours.find("side 1").unwrap());
 }
@@ -120,7 +120,7 @@ fn an_answer_that_cannot_be_drawn_gets_its_fields_and_ours_is_drawn() {
         assert!(!fields.contains("haplotype 1<td"), "the builder's haplotypes are not drawn");
         holds(
             ours,
-            &["Ours: least cost 3, flips 1", "<tr><th>read 0<td class=\"l0\">0<small>4</small><td class=\"hole\">"],
+            &["Ours: least cost 3, flips 1", "<tr><th>read 0<td class=\"l0\">0<small>:4</small><td class=\"hole\">"],
         );
     }
     let folder = folder("page-of-bytes");
@@ -159,13 +159,13 @@ fn answers_that_are_not_least_come_before_those_that_are() {
 #[test]
 fn special_names_are_escaped() {
     let name = "<script>alert('&\"1\"')<%2f>";
-    let folder = folder("<i>names & more");
+    let folder = folder("<u>names & more");
     put(&folder, name, P2, "0, 1, 001, 000, 111");
     let page = page(&folder);
     let safe = "&lt;script&gt;alert(&#39;&amp;&quot;1&quot;&#39;)&lt;%2f&gt;";
     holds(&page, &[&format!("<h2>{safe}</h2>"), &format!("<a href=\"#a0\">{safe}</a>")]);
-    holds(&page, &["<title>Answers judged: &lt;i&gt;names &amp; more</title>"]);
-    assert!(!page.contains("<script") && !page.contains("<i>"));
+    holds(&page, &["<title>Answers judged: &lt;u&gt;names &amp; more</title>"]);
+    assert!(!page.contains("<script") && !page.contains("<u>"));
 }
 
 #[test]
@@ -175,7 +175,7 @@ fn the_page_needs_nothing_but_itself() {
         assert!(!page.contains(foreign), "{foreign}");
     }
     assert!(page.starts_with("<!DOCTYPE html>\n") && page.ends_with("</html>\n"));
-    for tag in ["section", "figure", "table", "div", "p", "h2", "b", "small"] {
+    for tag in ["section", "figure", "table", "div", "p", "h2", "b", "small", "i", "details", "pre", "code"] {
         let (opened, closed) = (format!("<{tag}"), format!("</{tag}>"));
         let starts = [">", " "].map(|end| page.matches(&format!("{opened}{end}")).count());
         assert_eq!(starts[0] + starts[1], page.matches(&closed).count(), "{tag}");
@@ -231,7 +231,7 @@ fn of_a_large_block_the_columns_around_the_first_difference_are_drawn() {
         );
         assert!(!figure.contains("read 135<") && !figure.contains("read 143<"));
     }
-    holds(builder, &["<tr><th>read 140<td class=\"out\"><td><td><td class=\"l0 wrong\">0<small>9</small>"]);
+    holds(builder, &["<tr><th>read 140<td class=\"out\"><td><td><td class=\"l0 wrong\">0<small>:9</small><i>≠</i>"]);
     holds(builder, &["1 entry disagrees, weight 9."]);
     holds(ours, &["No entry disagrees."]);
 }
@@ -241,7 +241,105 @@ fn a_page_that_cannot_be_written_gets_status_2_and_nothing_is_judged() {
     let folder = folder("page-unwritable");
     put(&folder, "pair", P2, P2_OURS);
     let file = folder.join("no such folder/page.html");
-    let (output, error, status) = run(&[folder.as_os_str(), OsStr::new("--report"), file.as_os_str()]);
+    let (output, error, status) = run(&words!["judge", &folder, "--report", &file]);
     assert_eq!((output.as_str(), status), ("", 2));
-    assert!(error.starts_with("corpus: the page cannot be written: "), "{error}");
+    assert!(error.starts_with(&format!("velejume judge: {}: cannot be written: ", file.display())), "{error}");
+    let (output, error, status) = run(&words!["judge", &folder, "--report", folder.join("a.block")]);
+    assert_eq!((output.as_str(), status), ("", 2));
+    assert!(error.contains("a.block: does not end in .html\nusage: velejume judge "), "{error}");
+    assert_eq!(names(&folder), ["pair.answer", "pair.block"]);
+}
+
+/// The text between two parts of a page.
+fn between<'a>(page: &'a str, start: &str, end: &str) -> &'a str {
+    page.split_once(start).unwrap().1.split_once(end).unwrap().0
+}
+
+#[test]
+fn the_page_says_when_and_by_which_version_it_was_made() {
+    let page = page_of("made", P2, P2_OURS);
+    let made = between(&page, "<p>Made ", ".</p>\n");
+    let (when, by) = made.split_once(" by ").unwrap();
+    assert_eq!(by, concat!("velejume ", env!("CARGO_PKG_VERSION")));
+    let shape: String = when.chars().map(|c| if c.is_ascii_digit() { '9' } else { c }).collect();
+    assert_eq!(shape, "9999-99-99 99:99 UTC");
+    assert!(when > "2026-01-01", "{when}");
+}
+
+#[test]
+fn the_page_has_the_checksums_of_all_files_that_were_read() {
+    let folder = folder("page-of-sums");
+    put(&folder, "a", P2, P2_OURS);
+    put(&folder, "a-b", P2, "0, 1, 001, 000, 111");
+    fs::write(folder.join("c.block"), "").unwrap();
+    fs::create_dir(folder.join("d.answer")).unwrap();
+    fs::write(folder.join("other"), "no file of the corpus").unwrap();
+    let page = page(&folder);
+    let line = |name: &&str| {
+        let bytes = fs::read(folder.join(name)).unwrap();
+        format!("{}  {name}\n", corpus::hexadecimal(&corpus::sha256(&bytes)))
+    };
+    let list: String = ["a-b.answer", "a.answer", "a-b.block", "a.block", "c.block"].iter().map(line).collect();
+    assert_eq!(between(&page, "<pre>", "</pre>"), list);
+    assert!(list.ends_with("e3b0c44298fc1c149afbf4c8996fb92427ae41e4649b934ca495991b7852b855  c.block\n"));
+    let sum = corpus::hexadecimal(&corpus::sha256(list.as_bytes()));
+    holds(&page, &["Judged from 5 files.", &format!("<code>{sum}</code>")]);
+}
+
+#[test]
+fn a_share_has_a_page_of_its_own() {
+    let folder = folder("page-of-share");
+    put(&folder, "a", P2, "0, 1, 001, 000, 111");
+    put(&folder, "b", P2, "0, 1, 001, 000, 111");
+    let file = folder.join("page.html");
+    assert_eq!(run(&words!["judge", &folder, "--report", &file, "--part", "2/2"]).2, 1);
+    let page = fs::read_to_string(file).unwrap();
+    holds(&page, &["<h1>Answers judged: page-of-share, part 2 of 2</h1>", "<h2>b</h2>", "Judged from 2 files."]);
+    assert!(!page.contains("<h2>a</h2>"));
+}
+
+/// A folder with so many answers that cost too much, one that is least, one that is ours and a block without an answer.
+fn many(name: &str, wrong: usize) -> PathBuf {
+    let folder = folder(name);
+    (0..wrong).for_each(|i| put(&folder, &format!("n{i:03}"), "0:5 / 1:5", "5, 1, 00, -, -"));
+    put(&folder, "a-least", "0:5 / 1:5", "0, 0, 10, 1, 0");
+    put(&folder, "ours", "0:5 / 1:5", "0, 0, 01, 0, 1");
+    fs::write(folder.join("lonely.block"), block(P2)).unwrap();
+    folder
+}
+
+#[test]
+fn two_hundred_answers_are_drawn_on_one_page() {
+    let folder = many("page-of-200", 199);
+    let page = page(&folder);
+    assert_eq!(page.matches("<section id=").count(), 200);
+    assert_eq!(names(&folder).iter().filter(|name| name.to_str().unwrap().starts_with("page")).count(), 1);
+}
+
+#[test]
+fn more_than_two_hundred_are_cut_into_pages_with_an_index() {
+    let folder = many("page-of-401", 400);
+    let out = crate::common::folder("page-of-401-out");
+    let file = out.join("a page #1.html");
+    assert_eq!(run(&words!["judge", &folder, "--report", &file]).2, 1);
+    let pages = ["a page #1-1.html", "a page #1-2.html", "a page #1-3.html"];
+    assert_eq!(names(&out), [&pages[..], &["a page #1.html", "a page #1.sha256"]].concat());
+    let index = fs::read_to_string(&file).unwrap();
+    assert!(!index.contains("<figure>") && !index.contains("<pre>"));
+    holds(
+        &index,
+        &["<tr><td>lonely<td>a block without an answer\n", "<a href=\"a%20page%20%231.sha256\">The list</a>"],
+    );
+    holds(&index, &["<a href=\"a%20page%20%231-1.html#a0\">n000</a><td>55 ", "-1.html#a199\">n199</a>"]);
+    holds(&index, &["-2.html#a200\">n200</a>", "-3.html#a400\">a-least</a><td>56 ", "page%20%231-3.html\">3</a></p>"]);
+    let texts = pages.map(|name| fs::read_to_string(out.join(name)).unwrap());
+    assert_eq!(texts.each_ref().map(|text| text.matches("<section id=").count()), [200, 200, 1]);
+    holds(&texts[1], &["<section id=\"a200\">\n<h2>n200</h2>", "page 2 of 3</h1>", "How to read the drawings"]);
+    let ways = "<a href=\"a%20page%20%231.html\">index</a> <a href=\"a%20page%20%231-1.html\">page before</a> \
+                <a href=\"a%20page%20%231-3.html\">next page</a>";
+    assert_eq!(texts[1].matches(ways).count(), 2);
+    assert!(!texts[0].contains("page before") && !texts[2].contains("next page"));
+    let list = fs::read_to_string(out.join("a page #1.sha256")).unwrap();
+    assert_eq!(list.lines().count(), 805);
+    holds(&index, &[&format!("<code>{}</code>", corpus::hexadecimal(&corpus::sha256(list.as_bytes())))]);
 }

@@ -1,0 +1,113 @@
+//! The reads of a matrix, layer by layer.
+
+use crate::Kind;
+use crate::copies::Copies;
+use crate::layers::{Ground, over};
+use blocks::{Gaps, Random, Style, Weights, complement};
+use matrix::Row;
+use std::ops::Range;
+
+/// What all reads of a matrix have in common.
+pub struct Reads {
+    kind: Kind,
+    weights: Weights,
+    copies: Copies,
+}
+
+fn weights(kind: Kind, random: &mut Random) -> Weights {
+    match kind {
+        Kind::Ties => random.pick(&[Weights::Always(1), Weights::Always(9), Weights::UpTo(1), Weights::UpTo(2)]),
+        Kind::Weightless => Weights::ZeroButOneIn(random.within(3, 9)),
+        _ => random.pick(&[Weights::UpTo(255), Weights::UpTo(40), Weights::UpTo(9)]),
+    }
+}
+
+/// Where a read of this kind has holes.
+fn gaps(kind: Kind, random: &mut Random) -> Gaps {
+    match kind {
+        Kind::Gapless => Gaps::None,
+        Kind::Pairs => random.pick(&[Gaps::Pair, Gaps::Pair, Gaps::Pair, Gaps::None]),
+        Kind::Holes => Gaps::OneIn(random.within(2, 4)),
+        _ => random.pick(&[Gaps::None, Gaps::Pair, Gaps::OneIn(3)]),
+    }
+}
+
+/// A column of a read, and the holes around it, if it is one: of a read with holes it is.
+fn middle(row: &Row, random: &mut Random) -> (usize, Range<usize>) {
+    let is_hole = |column: &usize| row.cells[column - row.first].is_none();
+    let columns: Vec<usize> = (row.first..row.end()).collect();
+    let holes: Vec<usize> = columns.iter().copied().filter(is_hole).collect();
+    let column = random.pick(if holes.is_empty() { &columns } else { &holes });
+    let behind = (column..row.end()).take_while(is_hole).count();
+    let before = (row.first..column).rev().take_while(is_hole).count();
+    (column, column - before..column + behind)
+}
+
+/// A layer again, some of its reads with every letter exchanged.
+fn repeated(layer: &[Row], random: &mut Random) -> Vec<Row> {
+    layer.iter().map(|row| if random.one_in(2) { complement(row) } else { row.clone() }).collect()
+}
+
+impl Reads {
+    pub fn new(kind: Kind, columns: usize, random: &mut Random) -> Self {
+        Reads { kind, weights: weights(kind, random), copies: Copies::new(columns, random) }
+    }
+
+    /// A read at a place.
+    fn read(&self, place: Range<usize>, gaps: Gaps, random: &mut Random) -> Row {
+        let row = Style { gaps, weights: self.weights }.row(random, place.start, place.len());
+        self.copies.lettered(row, random)
+    }
+
+    /// The read that the others are drawn around: a long one with a gap, where the kind asks for it.
+    fn first(&self, ground: &Ground, random: &mut Random) -> Row {
+        let within = &ground.within;
+        if !self.kind.has_gaps() {
+            let column = random.within(within.start, within.end - 1);
+            let place = over(column, within, ground.length(random), random);
+            return self.read(place, gaps(self.kind, random), random);
+        }
+        let longest = *ground.lengths.end();
+        let length = random.within(longest.div_ceil(2).max(3), longest);
+        let first = random.within(within.start, within.end - length);
+        let gaps = if self.kind == Kind::Holes { Gaps::OneIn(2) } else { Gaps::Pair };
+        loop {
+            let row = self.read(first..first + length, gaps, random);
+            if row.has_gap() {
+                return row;
+            }
+        }
+    }
+
+    /// The layer of a read.
+    fn layer(&self, read: Row, ground: &Ground, random: &mut Random) -> Vec<Row> {
+        let places = ground.around(read.first..read.end(), random);
+        let others = places.into_iter().map(|place| self.read(place, gaps(self.kind, random), random));
+        [read].into_iter().chain(others).collect()
+    }
+
+    /// The reads of so many layers. Each layer has one in a column of the first read, in its gap if it has one.
+    pub fn layers(&self, ground: &Ground, depth: usize, random: &mut Random) -> Vec<Row> {
+        let first = self.first(ground, random);
+        let (column, gap) = middle(&first, random);
+        let mut layers = vec![self.layer(first, ground, random)];
+        while layers.len() < depth {
+            let read = match (self.kind, &layers[..]) {
+                (Kind::Ties, [.., before]) if random.one_in(2) => {
+                    layers.push(repeated(before, random));
+                    continue;
+                }
+                (Kind::Inside, [_]) => {
+                    let length = random.within(1, gap.len());
+                    self.read(over(column, &gap, length, random), Gaps::OneIn(4), random)
+                }
+                _ => {
+                    let place = over(column, &ground.within, ground.length(random), random);
+                    self.read(place, gaps(self.kind, random), random)
+                }
+            };
+            layers.push(self.layer(read, ground, random));
+        }
+        layers.concat()
+    }
+}

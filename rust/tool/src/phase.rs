@@ -1,0 +1,93 @@
+//! velejume phase: the least cost of blocks, and how their reads are divided at it.
+
+use crate::command::{Command, Fault, Status};
+use crate::output::{at, print, say};
+use crate::words::Words;
+use corpus::{Outcome, Progress, put, read_block};
+use std::path::Path;
+
+pub const COMMAND: Command = Command {
+    name: "phase",
+    help: "\
+usage: velejume phase [--answer] BLOCK..
+
+Divides the reads of each fragment block at the least cost and prints five
+lines: cost, flips, the side of each read, and the haplotypes of side 0 and
+side 1. '-' is no letter: both cost the same. Of several blocks each has its
+name before, as 'block NAME'. A block that is refused gets one line, 'refused
+NUMBER at SECOND' and the reason.
+
+  --answer  also write the answer blocks: NAME.answer beside NAME.block; an
+            answer that is there is kept
+
+The exit status is 0 if every block is accepted; 1 if one is refused, or
+another answer is there; 2 if a block cannot be read, an answer cannot be
+written, or this usage is not kept.
+",
+    options: &[("--answer", None)],
+    run,
+};
+
+/// How many blocks are phased before they are printed.
+const AT_ONCE: usize = 256;
+
+/// What came of a block: what is printed of it, what is said of it on standard error, how well it ended.
+struct Phased {
+    printed: String,
+    said: Option<String>,
+    status: Status,
+}
+
+fn phased(path: &Path, answers: bool) -> Phased {
+    let block = match read_block(path) {
+        Ok(block) => block,
+        Err(why) => {
+            let said = Some(at(path, format!("cannot be read: {why}")));
+            return Phased { printed: String::new(), said, status: Status::Failed };
+        }
+    };
+    let answer = match velejume::phase(&block) {
+        Ok(answer) => answer,
+        Err(refusal) => {
+            let printed = format!("{}\n", Outcome::Refused(refusal));
+            return Phased { printed, said: None, status: Status::Found };
+        }
+    };
+    let made = answers.then(|| put(path, &answer.block())).filter(|made| !made.fine());
+    let status = match &made {
+        None => Status::Fine,
+        Some(corpus::Made::Other) => Status::Found,
+        Some(_) => Status::Failed,
+    };
+    Phased { printed: answer.to_string(), said: made.map(|made| at(path, made)), status }
+}
+
+/// Prints what came of some blocks, with their names if there are several; says whether anyone still reads.
+fn shown(paths: &[std::path::PathBuf], phased: &[Phased], named: bool) -> Result<bool, Fault> {
+    let mut text = String::new();
+    for (path, phased) in paths.iter().zip(phased) {
+        if named && !phased.printed.is_empty() {
+            text += &format!("block {}\n", corpus::shown(path.as_os_str()));
+        }
+        text += &phased.printed;
+        phased.said.iter().for_each(|said| say(&format!("velejume phase: {said}")));
+    }
+    print(text.as_bytes())
+}
+
+fn run(words: &Words) -> Result<Status, Fault> {
+    let (paths, answers) = (words.rest(), words.has("--answer"));
+    if paths.is_empty() {
+        return Err(Fault::Usage("no block is given".to_string()));
+    }
+    let mut progress = Progress::new(paths.len());
+    let mut status = Status::Fine;
+    for some in paths.chunks(AT_ONCE) {
+        let phased = corpus::each(some, &mut progress, |path, _| phased(path, answers));
+        status = phased.iter().map(|phased| phased.status).fold(status, Status::max);
+        if !shown(some, &phased, paths.len() > 1)? && !answers {
+            break;
+        }
+    }
+    Ok(status)
+}

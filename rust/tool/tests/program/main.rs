@@ -1,0 +1,15 @@
+//! The program `velejume`, run: exit status, standard output, standard error.
+
+mod answers;
+mod common;
+mod draw;
+mod example;
+mod files;
+mod folder;
+mod judge;
+mod matrix;
+mod phase;
+mod pipes;
+mod report;
+mod tsv;
+mod words;

@@ -11,8 +11,8 @@ pub const P2_OURS: &str = "3, 1, 001, 000, 111";
 pub const P2_LINES: &str = "cost 3\nflips 1\nsides 001\nhap1 000\nhap2 111\n";
 
 /// An empty folder.
-pub fn folder(name: impl AsRef<OsStr>) -> PathBuf {
-    let folder = Path::new(env!("CARGO_TARGET_TMPDIR")).join(name.as_ref());
+pub fn folder(name: &str) -> PathBuf {
+    let folder = Path::new(env!("CARGO_TARGET_TMPDIR")).join(name);
     if folder.exists() {
         fs::remove_dir_all(&folder).unwrap();
     }

@@ -11,5 +11,6 @@ mod matrix;
 mod phase;
 mod pipes;
 mod report;
+mod transcript;
 mod tsv;
 mod words;

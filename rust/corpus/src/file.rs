@@ -17,7 +17,7 @@ fn other(kind: FileType) -> &'static str {
 }
 
 /// The bytes of a regular file, at most so many, or why they cannot be had. What the file should be is said of one that has more.
-pub fn read(path: &Path, most: usize, what: &str) -> Result<Vec<u8>, String> {
+pub fn read_regular(path: &Path, most: usize, what: &str) -> Result<Vec<u8>, String> {
     let said = |fault: io::Error| fault.to_string();
     // asked before the file is opened: to open a pipe is to wait for one who writes
     let kind = fs::metadata(path).map_err(said)?.file_type();
@@ -34,10 +34,10 @@ pub fn read(path: &Path, most: usize, what: &str) -> Result<Vec<u8>, String> {
 
 /// The bytes of a fragment block.
 pub fn read_block(path: &Path) -> Result<Vec<u8>, String> {
-    read(path, BLOCK_BYTES, "block")
+    read_regular(path, BLOCK_BYTES, "block")
 }
 
 /// The bytes of an answer block.
 pub fn read_answer(path: &Path) -> Result<Vec<u8>, String> {
-    read(path, OUTPUT_BYTES, "answer")
+    read_regular(path, OUTPUT_BYTES, "answer")
 }

@@ -23,7 +23,7 @@ pub use answers::{Made, answers, put};
 pub use checksum::{Checksum, list};
 pub use cores::each;
 pub use date::utc;
-pub use file::{read, read_answer, read_block};
+pub use file::{read_answer, read_block, read_regular};
 pub use folder::{Item, items};
 pub use judge::{Judged, Wanted, judge};
 pub use new_file::NewFile;

@@ -32,15 +32,21 @@ fn gaps(kind: Kind, random: &mut Random) -> Gaps {
     }
 }
 
-/// A column of a read, and the holes around it, if it is one: of a read with holes it is.
-fn middle(row: &Row, random: &mut Random) -> (usize, Range<usize>) {
+/// The column in which every layer has a read, and the holes of the first read around it, if it is in a gap.
+struct Middle {
+    column: usize,
+    gap: Range<usize>,
+}
+
+/// A column of a read; of one with holes one of these.
+fn middle(row: &Row, random: &mut Random) -> Middle {
     let is_hole = |column: &usize| row.cells[column - row.first].is_none();
     let columns: Vec<usize> = (row.first..row.end()).collect();
     let holes: Vec<usize> = columns.iter().copied().filter(is_hole).collect();
     let column = random.pick(if holes.is_empty() { &columns } else { &holes });
     let behind = (column..row.end()).take_while(is_hole).count();
     let before = (row.first..column).rev().take_while(is_hole).count();
-    (column, column - before..column + behind)
+    Middle { column, gap: column - before..column + behind }
 }
 
 /// A layer again, some of its reads with every letter exchanged.
@@ -86,27 +92,28 @@ impl Reads {
         [read].into_iter().chain(others).collect()
     }
 
-    /// The reads of so many layers. Each layer has one in a column of the first read, in its gap if it has one.
+    /// The layer that follows those that are there.
+    fn next(&self, layers: &[Vec<Row>], middle: &Middle, ground: &Ground, random: &mut Random) -> Vec<Row> {
+        let Middle { column, gap } = middle;
+        let (place, gaps) = match (self.kind, layers) {
+            (Kind::Ties, [.., before]) if random.one_in(2) => return repeated(before, random),
+            (Kind::Inside, [_]) => {
+                let length = random.within(1, gap.len());
+                (over(*column, gap, length, random), Gaps::OneIn(4))
+            }
+            _ => (over(*column, &ground.within, ground.length(random), random), gaps(self.kind, random)),
+        };
+        let read = self.read(place, gaps, random);
+        self.layer(read, ground, random)
+    }
+
+    /// The reads of so many layers.
     pub fn layers(&self, ground: &Ground, depth: usize, random: &mut Random) -> Vec<Row> {
         let first = self.first(ground, random);
-        let (column, gap) = middle(&first, random);
+        let middle = middle(&first, random);
         let mut layers = vec![self.layer(first, ground, random)];
         while layers.len() < depth {
-            let read = match (self.kind, &layers[..]) {
-                (Kind::Ties, [.., before]) if random.one_in(2) => {
-                    layers.push(repeated(before, random));
-                    continue;
-                }
-                (Kind::Inside, [_]) => {
-                    let length = random.within(1, gap.len());
-                    self.read(over(column, &gap, length, random), Gaps::OneIn(4), random)
-                }
-                _ => {
-                    let place = over(column, &ground.within, ground.length(random), random);
-                    self.read(place, gaps(self.kind, random), random)
-                }
-            };
-            layers.push(self.layer(read, ground, random));
+            layers.push(self.next(&layers, &middle, ground, random));
         }
         layers.concat()
     }

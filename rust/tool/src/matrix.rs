@@ -67,7 +67,7 @@ fn run(words: &Words) -> Result<Status, Fault> {
     let paths = words.rest();
     let (name, bytes) = match &paths[..] {
         [] => (Path::new("standard input"), input(most, what)),
-        [path] => (path.as_path(), corpus::read(path, most, what)),
+        [path] => (path.as_path(), corpus::read_regular(path, most, what)),
         _ => return Err(Fault::Usage("one file at most".to_string())),
     };
     let bytes = bytes.map_err(|why| Fault::Failed(at(name, format!("cannot be read: {why}"))))?;

@@ -8,6 +8,7 @@ use std::path::PathBuf;
 /// An option: its name, and what its value is, if it has one.
 pub type Known = (&'static str, Option<&'static str>);
 
+/// The words of a call, sorted.
 pub struct Words {
     options: Vec<(&'static str, OsString)>,
     rest: Vec<OsString>,
@@ -61,6 +62,7 @@ impl Words {
         }
     }
 
+    /// Whether an option is given.
     pub fn has(&self, name: &str) -> bool {
         self.value(name).is_some()
     }
@@ -70,6 +72,7 @@ impl Words {
         self.options.iter().find(|(given, _)| *given == name).map(|(_, value)| value.as_os_str())
     }
 
+    /// The file that an option names.
     pub fn path(&self, name: &str) -> Option<PathBuf> {
         self.value(name).map(PathBuf::from)
     }

@@ -177,6 +177,14 @@ fn what_is_printed_is_a_table_of_the_kinds() {
 }
 
 #[test]
+fn the_help_names_every_kind() {
+    let help = run(&["draw", "--help"]).0;
+    assert!(KINDS.iter().all(|kind| help.lines().any(|line| line.trim_start().starts_with(&format!("{kind} ")))));
+    let (_, error, _) = run(&["draw", "a", "--seed", "1", "--count", "1", "--kind", ""]);
+    assert!(error.contains(&format!("--kind : it should be one or more of {}\n", KINDS.join(", "))), "{error}");
+}
+
+#[test]
 fn a_folder_that_is_not_empty_is_left_as_it_is() {
     let folder = folder("draw-full");
     fs::write(folder.join("a.block"), block("0:7")).unwrap();

@@ -7,13 +7,13 @@
 
 /* one character for each of so many bytes; letter 2 is no letter */
 static void line(const char *name, const uint8_t *marks, size_t count) {
-  printf("%s ", name);
+  printf("%s %s", name, count ? "" : "none");
   for (size_t i = 0; i < count; i++) putchar("01-"[marks[i]]);
   putchar('\n');
 }
 
 int main(int argc, char **argv) {
-  static uint8_t block[1 << 22];
+  static uint8_t block[VELEJUME_LARGEST_BLOCK + 1];
   FILE *file = argc == 2 ? fopen(argv[1], "rb") : NULL;
   if (!file) return fprintf(stderr, "usage: phase BLOCK\n"), 2;
   size_t size = fread(block, 1, sizeof block, file);

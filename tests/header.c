@@ -1,0 +1,102 @@
+/* What velejume.h says of lengths: NULL with length 0 stands for each room, alone and together with others, and its constants are the
+   limits of the library. */
+#include <stdio.h>
+#include <string.h>
+#include <velejume.h>
+
+static int passed, failed;
+
+static void expect(const char *what, uint32_t number, uint32_t second, uint32_t found, uint32_t found_second) {
+  if (number == found && second == found_second) {
+    passed++;
+  } else {
+    failed++;
+    printf("header: %s: expected %u %u, found %u %u\n", what, number, second, found, found_second);
+  }
+}
+
+/* 0:5 . / 1:3 0:2 / 1:6 1:1 / . 0:2 and its answer: cost 1, sides 1000, haplotypes 10 and 0- */
+static const uint8_t small[] = {1, 0, 0, 0, 32, 0, 2, 0, 4, 0, 4, 0, 0, 0, 5, 0, 6, 0, 0,
+                                1, 3, 0, 2, 0, 6, 0, 0, 1, 6, 1, 1, 0, 4, 0, 1, 0, 2};
+static const uint8_t answer[] = {2, 0, 0, 0, 20, 0, 0, 0, 1, 0, 0, 0, 1, 0, 4, 0, 2, 1, 0, 0, 0, 1, 0, 0, 2};
+enum { BLOCK = sizeof small, ANSWER = sizeof answer, ENTRIES = 8, BYTES = 25 };
+
+static void empty_rooms(void) {
+  uint32_t work[ENTRIES], number, second;
+  uint8_t out[BYTES];
+  for (int empty = 0; empty < 8; empty++) {
+    int no_block = empty & 1, no_work = empty & 2, no_out = empty & 4;
+    size_t block_len = no_block ? 0 : BLOCK, work_len = no_work ? 0 : ENTRIES, out_len = no_out ? 0 : BYTES;
+    uint32_t refusal = no_block ? 1 : no_work ? 10 : no_out ? 11 : 0;
+    uint32_t beside = no_block ? 0 : no_work ? ENTRIES : no_out ? BYTES : 1;
+    number = velejume_phase(no_block ? NULL : small, block_len, no_work ? NULL : work, work_len, no_out ? NULL : out, out_len, &second);
+    expect("phase, NULL", refusal, beside, number, second);
+    number = velejume_phase(small, block_len, work, work_len, out, out_len, &second);
+    expect("phase, length 0", refusal, beside, number, second);
+  }
+  for (int empty = 0; empty < 8; empty++) {
+    int no_block = empty & 1, no_answer = empty & 2, no_work = empty & 4;
+    size_t block_len = no_block ? 0 : BLOCK, answer_len = no_answer ? 0 : ANSWER, work_len = no_work ? 0 : ENTRIES;
+    uint32_t verdict = no_block ? 1 : no_work ? 10 : no_answer ? 50 : 57;
+    uint32_t beside = !no_block && no_work ? ENTRIES : 0;
+    number = velejume_judge(no_block ? NULL : small, block_len, no_answer ? NULL : answer, answer_len, no_work ? NULL : work, work_len, &second);
+    expect("judge, NULL", verdict, beside, number, second);
+    number = velejume_judge(small, block_len, answer, answer_len, work, work_len, &second);
+    expect("judge, length 0", verdict, beside, number, second);
+  }
+  number = velejume_judge(small, BLOCK, small, BLOCK, work, ENTRIES, &second);
+  expect("a block as its own answer", 50, 0, number, second);
+}
+
+static uint8_t block[VELEJUME_LARGEST_BLOCK + 1];
+static uint32_t work[VELEJUME_MOST_ENTRIES];
+static uint8_t out[VELEJUME_LARGEST_ANSWER];
+
+static size_t put(size_t at, size_t number) {
+  block[at] = (uint8_t)(number >> 8);
+  block[at + 1] = (uint8_t)number;
+  return at + 2;
+}
+
+/* a block of so many columns and reads, each read of so many cells 0:0 from column 0 on; its length */
+static size_t build(size_t columns, size_t reads, size_t cells) {
+  memset(block, 0, sizeof block);
+  block[0] = 1;
+  size_t at = put(put(5, columns), reads);
+  for (size_t read = 0; read < reads; read++) at = put(put(at, 2 + 2 * cells), 0) + 2 * cells;
+  put(1, (at - 5) >> 16);
+  put(3, (at - 5) & 0xffff);
+  return at;
+}
+
+static void constants(void) {
+  uint32_t number, second;
+  size_t size = build(VELEJUME_MOST_COLUMNS, VELEJUME_MOST_ACTIVE, VELEJUME_MOST_COLUMNS);
+  number = velejume_phase(block, size, work, VELEJUME_MOST_ENTRIES - 1, out, VELEJUME_LARGEST_ANSWER, &second);
+  expect("the most entries less one", 10, VELEJUME_MOST_ENTRIES, number, second);
+  size = build(VELEJUME_MOST_COLUMNS, VELEJUME_MOST_ACTIVE + 1, VELEJUME_MOST_COLUMNS);
+  number = velejume_phase(block, size, work, VELEJUME_MOST_ENTRIES, out, VELEJUME_LARGEST_ANSWER, &second);
+  expect("one more active read", 9, 0, number, second);
+  size = build(VELEJUME_MOST_COLUMNS, VELEJUME_MOST_READS, 0);
+  number = velejume_phase(block, size, work, VELEJUME_MOST_ENTRIES, out, VELEJUME_LARGEST_ANSWER - 1, &second);
+  expect("the largest answer less one", 11, VELEJUME_LARGEST_ANSWER, number, second);
+  number = velejume_phase(block, size, work, VELEJUME_MOST_ENTRIES, out, VELEJUME_LARGEST_ANSWER, &second);
+  expect("the largest answer", 0, 0, number, second);
+  size = build(VELEJUME_MOST_COLUMNS + 1, 0, 0);
+  number = velejume_phase(block, size, work, VELEJUME_MOST_ENTRIES, out, VELEJUME_LARGEST_ANSWER, &second);
+  expect("one more column", 4, 0, number, second);
+  size = build(1, VELEJUME_MOST_READS + 1, 0);
+  number = velejume_phase(block, size, work, VELEJUME_MOST_ENTRIES, out, VELEJUME_LARGEST_ANSWER, &second);
+  expect("one more read", 4, 0, number, second);
+  size = build(VELEJUME_MOST_COLUMNS, VELEJUME_MOST_READS, VELEJUME_MOST_COLUMNS);
+  number = velejume_phase(block, size, work, VELEJUME_MOST_ENTRIES, out, VELEJUME_LARGEST_ANSWER, &second);
+  expect("the largest block", 9, 0, number, second);
+  expect("its length", VELEJUME_LARGEST_BLOCK, 0, (uint32_t)size, 0);
+}
+
+int main(void) {
+  empty_rooms();
+  constants();
+  printf("%d passed, %d failed\n", passed, failed);
+  return failed != 0;
+}

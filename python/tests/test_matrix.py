@@ -1,0 +1,92 @@
+import random
+import unittest
+
+import velejume
+from vectors import REPOSITORY, phased
+
+PAPER = "0:5 . / 1:3 0:2 / 1:6 1:1 / . 0:2"
+
+
+class Blocks(unittest.TestCase):
+    def test_examples(self):
+        examples = REPOSITORY / "examples"
+        self.assertEqual(velejume.block_of(PAPER), (examples / "p1.block").read_bytes())
+        self.assertEqual(velejume.block_of("0:4 . 1:3 / 0:5 0:5 0:5 / 1:5 1:5 1:5"), (examples / "paired.block").read_bytes())
+
+    def test_rows(self):
+        same = [
+            "0:5 . /\n1:3 0:2 /\n1:6 1:1 /\n. 0:2\n",
+            "0:5 .\n1:3 0:2\n1:6 1:1\n. 0:2",
+            "\n\n  0:5 .  \n\n 1:3   0:2\n / 1:6\t1:1\r\n/\n\n. 0:2 \n\n",
+            "0:5/1:3 0:2/1:6 1:1/. 0:2",
+        ]
+        for text in same:
+            with self.subTest(text):
+                self.assertEqual(velejume.block_of(text), velejume.block_of(PAPER))
+
+    def test_holes_and_empty_reads(self):
+        self.assertEqual(velejume.block_of(". / 0:4 . 1:255 .")[9:].hex(), "00020000" + "0008000000040200" + "01ff")
+        self.assertEqual(velejume.block_of("", columns=3).hex(), "010000000400030000")
+        self.assertEqual(velejume.block_of("0:0", columns=1024)[5:7].hex(), "0400")
+
+    def test_faults(self):
+        faults = {
+            "0:5 2:5": "row 1, entry 2: '2:5' is neither",
+            "0:5 / 0:256": "row 2, entry 1: '0:256' is neither",
+            "0:5\n0:05": "row 2, entry 1: '0:05' is neither",
+            "0:": "row 1, entry 1: '0:' is neither",
+            "0:+5": "is neither",
+            "0:٣": "is neither",
+            "..": "is neither",
+            "0:5 / / 1:5": "row 2 is empty",
+            "0:5 /": "row 2 is empty",
+            "/": "row 1 is empty",
+            "": "no row says how many columns there are",
+            " \n ": "no row says how many columns there are",
+            " ".join(["0:1"] * 1025): "1025 columns: a block has 1 to 1024",
+            "/".join(["."] * 1025): "1025 rows: a block has at most 1024 reads",
+        }
+        for text, words in faults.items():
+            with self.subTest(text[:20]):
+                with self.assertRaises(ValueError) as caught:
+                    velejume.block_of(text)
+                self.assertIn(words, str(caught.exception))
+        for text, columns, words in (("0:5 0:5", 1, "row 1 has 2 entries, columns given: 1"), (".", 0, "0 columns"), ("", 1025, "1025 columns"), ("", -1, "-1 columns")):
+            with self.subTest(text, columns=columns):
+                with self.assertRaisesRegex(ValueError, words):
+                    velejume.block_of(text, columns)
+
+    def test_wrong_types(self):
+        for value in (None, 5, b"0:5", ["0:5"]):
+            with self.subTest(repr(value)):
+                with self.assertRaises(TypeError):
+                    velejume.block_of(value)
+
+
+class Matrices(unittest.TestCase):
+    def test_text(self):
+        self.assertEqual(velejume.matrix_of(velejume.block_of(PAPER)), "0:5 . /\n1:3 0:2 /\n1:6 1:1 /\n. 0:2")
+        self.assertEqual(velejume.matrix_of(velejume.block_of(".", columns=3)), ". . .")
+        self.assertEqual(velejume.matrix_of(velejume.block_of("", columns=3)), "")
+
+    def test_refused(self):
+        with self.assertRaises(velejume.Refused) as caught:
+            velejume.matrix_of(b"\1\0\0\0\4\0\0\0\0")
+        self.assertEqual((caught.exception.number, caught.exception.second), (4, 0))
+        crowded = velejume.block_of(" / ".join(["0:1"] * 13))
+        self.assertEqual(velejume.matrix_of(crowded), " /\n".join(["0:1"] * 13))
+
+    def test_there_and_back(self):
+        """Blocks of the vectors, and random ones: a block has one matrix, and the matrix gives it back."""
+        blocks = [case.block for case in phased() if not case.printed.startswith("refused") and case.block[7:9] != b"\0\0"]
+        dice = random.Random(1)
+        for _ in range(200):
+            columns = dice.randrange(1, 9)
+            rows = [[dice.choice([".", f"{dice.randrange(2)}:{dice.randrange(256)}"]) for _ in range(columns)] for _ in range(dice.randrange(1, 9))]
+            blocks.append(velejume.block_of(" / ".join(map(" ".join, rows))))
+        for block in blocks:
+            self.assertEqual(velejume.block_of(velejume.matrix_of(block)), block)
+
+
+if __name__ == "__main__":
+    unittest.main()

@@ -1,0 +1,64 @@
+import pickle
+import unittest
+
+import velejume
+from velejume import _calls
+
+ONE = velejume.block_of("0:7")
+
+#: number, second number, a block that gets them
+CASES = [
+    (1, 0, b""),
+    (1, 0, ONE[:8]),
+    (2, 0, b"\3" + ONE[1:]),
+    (3, 0, ONE + b"\0"),
+    (3, 0, ONE[:-1]),
+    (4, 0, bytes([1, 0, 0, 0, 4, 0, 0, 0, 0])),
+    (4, 0, bytes([1, 0, 0, 0, 4, 4, 1, 0, 0])),
+    (4, 0, bytes([1, 0, 0, 0, 4, 0, 1, 4, 1])),
+    (5, 0, bytes([1, 0, 0, 0, 4, 0, 1, 0, 1])),
+    (5, 1, bytes([1, 0, 0, 0, 12, 0, 1, 0, 2, 0, 4, 0, 0, 0, 7, 0, 1])),
+    (6, 0, bytes([1, 0, 0, 0, 8, 0, 1, 0, 1, 0, 2, 0, 1])),
+    (6, 0, bytes([1, 0, 0, 0, 12, 0, 1, 0, 1, 0, 6, 0, 0, 0, 7, 0, 7])),
+    (7, 0, bytes([1, 0, 0, 0, 10, 0, 1, 0, 1, 0, 4, 0, 0, 2, 0])),
+    (7, 0, bytes([1, 0, 0, 0, 10, 0, 1, 0, 1, 0, 4, 0, 0, 3, 0])),
+    (8, 0, bytes([1, 0, 0, 0, 5, 0, 1, 0, 0, 0])),
+    (9, 2, velejume.block_of(" / ".join([". . 0:1"] * 13))),
+]
+
+
+class Refusals(unittest.TestCase):
+    def test_both_numbers(self):
+        self.assertEqual({number for number, _, _ in CASES}, set(range(1, 10)))
+        for number, second, block in CASES:
+            for call in (velejume.phase, lambda given: velejume.judge(given, velejume.phase(ONE))):
+                with self.subTest(number=number, block=block.hex()[:40]):
+                    with self.assertRaises(velejume.Refused) as caught:
+                        call(block)
+                    self.assertEqual((caught.exception.number, caught.exception.second), (number, second))
+                    self.assertTrue(str(caught.exception).startswith(f"refused {number} at {second}: "))
+
+    def test_rooms(self):
+        """10 and 11 are of rooms, which `phase` and `judge` make large enough."""
+        self.assertEqual(_calls.phase_in(ONE, _calls.work_room(0), _calls.output_room(0)), (10, 1))
+        self.assertEqual(_calls.phase_in(ONE, _calls.work_room(1), _calls.output_room(19)), (11, 20))
+        self.assertEqual(_calls.judge_in(ONE, b"", _calls.work_room(0)), (10, 1))
+
+    def test_words(self):
+        said = [str(velejume.Refused(number, 6)) for number in range(1, 12)]
+        self.assertEqual(len(set(said)), 11)
+        for number in (5, 6, 7):
+            self.assertIn("read 6:", said[number - 1])
+        self.assertIn("column 6 ", said[8])
+        self.assertIn("6 entries", said[9])
+        self.assertIn("6 bytes", said[10])
+        self.assertIn("no words", str(velejume.Refused(99, 0)))
+
+    def test_is_an_exception_of_values(self):
+        self.assertTrue(issubclass(velejume.Refused, ValueError))
+        again = pickle.loads(pickle.dumps(velejume.Refused(9, 2)))
+        self.assertEqual((again.number, again.second, str(again)), (9, 2, "refused 9 at 2: column 2 has more than 12 active reads"))
+
+
+if __name__ == "__main__":
+    unittest.main()

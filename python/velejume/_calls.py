@@ -1,0 +1,101 @@
+"""Phasing and judging: the library's calls, with as much room as they ask for."""
+
+from __future__ import annotations
+
+import ctypes
+from typing import Union
+
+from . import _answer, _verdict
+from ._answer import Answer
+from ._library import library
+from ._refused import Refused
+from ._verdict import Verdict
+
+#: what a block or an answer block is given as
+Bytes = Union[bytes, bytearray, memoryview]
+
+_WORK_ROOM = 10
+_LARGEST_ANSWER = 17 + 1024 + 2 * 1024
+
+
+def bytes_of(name: str, value: object) -> bytes:
+    """A copy of what is lent, so that no other thread can change it during the call; bytes themselves are not copied."""
+    if isinstance(value, bytes):
+        return value
+    if isinstance(value, str):
+        raise TypeError(f"{name} is bytes, not str: block_of makes a block of a matrix, answer_of an answer")
+    try:
+        view = memoryview(value)  # type: ignore[arg-type]
+    except TypeError:
+        raise TypeError(f"{name} is bytes, not {type(value).__name__}") from None
+    if view.itemsize != 1:
+        raise TypeError(f"{name} is bytes, not items of {view.itemsize} bytes")
+    return view.tobytes()
+
+
+def work_room(entries: int) -> ctypes.Array[ctypes.c_uint32]:
+    return (ctypes.c_uint32 * entries)()
+
+
+def output_room(size: int) -> ctypes.Array[ctypes.c_uint8]:
+    return (ctypes.c_uint8 * size)()
+
+
+def phase_in(block: bytes, work: ctypes.Array[ctypes.c_uint32], out: ctypes.Array[ctypes.c_uint8]) -> tuple[int, int]:
+    """Both numbers of the C call, in these rooms."""
+    second = ctypes.c_uint32()
+    number = library.velejume_phase(block, len(block), work, len(work), out, len(out), ctypes.byref(second))
+    return number, second.value
+
+
+def judge_in(block: bytes, answer: bytes, work: ctypes.Array[ctypes.c_uint32]) -> tuple[int, int]:
+    """Both numbers of the C call, in this room."""
+    second = ctypes.c_uint32()
+    number = library.velejume_judge(block, len(block), answer, len(answer), work, len(work), ctypes.byref(second))
+    return number, second.value
+
+
+def phase(block: Bytes, table: bool = False) -> Answer:
+    """Phases a fragment block; raises `Refused`, with both numbers, where it is refused.
+
+    >>> import velejume
+    >>> block = velejume.block_of("0:5 . / 1:3 0:2 / 1:6 1:1 / . 0:2")
+    >>> velejume.phase(block).cost
+    1
+    >>> velejume.phase(block, table=True).table
+    [[5, 3, 0, 5], [1, 3, 1, 4]]
+    """
+    block = bytes_of("block", block)
+    out = output_room(_LARGEST_ANSWER)
+    work = work_room(0)
+    # without a work room a block is refused by 10, which says how many entries it takes, if not by a number before it
+    number, second = phase_in(block, work, out)
+    if number == _WORK_ROOM:
+        work = work_room(second)
+        number, second = phase_in(block, work, out)
+    if number != 0:
+        raise Refused(number, second)
+    written = bytes(out)
+    length = 5 + int.from_bytes(written[1:5], "big")
+    return _answer.read(written[:length], list(work) if table else None)
+
+
+def judge(block: Bytes, answer: Union[Bytes, Answer]) -> Verdict:
+    """Judges an answer block, or an `Answer`, to a fragment block; raises `Refused` where the fragment block is refused.
+
+    >>> import velejume
+    >>> block = velejume.block_of("0:7")
+    >>> velejume.judge(block, velejume.phase(block)).words
+    'ours'
+    >>> velejume.judge(block, velejume.answer_of(cost=7, sides="0", haplotypes=("1", "-"))).least_cost
+    0
+    """
+    block = bytes_of("block", block)
+    given = answer.block if isinstance(answer, Answer) else bytes_of("answer", answer)
+    number, second = judge_in(block, given, work_room(0))
+    if number == _WORK_ROOM:
+        number, second = judge_in(block, given, work_room(second))
+    verdict = _verdict.read(number, second)
+    if verdict is None:
+        raise Refused(number, second)
+    return verdict

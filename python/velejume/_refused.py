@@ -1,0 +1,46 @@
+"""Why a block is refused."""
+
+from __future__ import annotations
+
+_WORDS = {
+    1: "fewer than 9 bytes",
+    2: "version not 1",
+    3: "length field differs from the bytes present after byte 4",
+    4: "no columns, more than 1024 columns or more than 1024 reads",
+    5: "read {second}: its length field is cut off, below 2, odd, or runs past the block",
+    6: "read {second}: no cells and a first column other than 0, or cells past the last column",
+    7: "read {second}: a letter above 2, a hole with weight, or a first or last cell that is a hole",
+    8: "bytes remain after the last read",
+    9: "column {second} has more than 12 active reads",
+    10: "the work room is below {second} entries",
+    11: "the output is below {second} bytes",
+}
+
+
+class Refused(ValueError):
+    """A block is refused. `number` is the refusal's, 1 to 11, and `second` its second number: a read, a column or a size, 0 where there is none.
+
+    >>> import velejume
+    >>> velejume.phase(b"no block")
+    Traceback (most recent call last):
+        ...
+    velejume.Refused: refused 1 at 0: fewer than 9 bytes
+    >>> try:
+    ...     velejume.phase(velejume.block_of(". 0:1 /" * 12 + ". 0:1"))
+    ... except velejume.Refused as refused:
+    ...     print(refused.number, refused.second, refused.words)
+    9 1 column 1 has more than 12 active reads
+    """
+
+    def __init__(self, number: int, second: int) -> None:
+        super().__init__(number, second)
+        self.number = number
+        self.second = second
+
+    @property
+    def words(self) -> str:
+        """The refusal in words."""
+        return _WORDS.get(self.number, "a refusal that this module has no words for").format(second=self.second)
+
+    def __str__(self) -> str:
+        return f"refused {self.number} at {self.second}: {self.words}"

@@ -1,8 +1,9 @@
-"""The examples in docstrings and on the first page are run; the module is written for Python 3.9 on."""
+"""The examples in docstrings and on the first page are run; every public name has types; the module is written for Python 3.9 on."""
 
 import ast
 import doctest
 import pkgutil
+import typing
 import unittest
 from importlib import import_module
 from pathlib import Path
@@ -20,6 +21,12 @@ class Module(unittest.TestCase):
         for name in velejume.__all__:
             with self.subTest(name):
                 self.assertIn(">>>", getattr(velejume, name).__doc__)
+
+    def test_types(self):
+        for name in velejume.__all__:
+            thing = getattr(velejume, name)
+            with self.subTest(name):
+                self.assertTrue(typing.get_type_hints(thing.__init__ if name == "Refused" else thing))
 
     def test_syntax(self):
         for module in modules():

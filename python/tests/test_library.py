@@ -13,13 +13,12 @@ MODULE = Path(velejume.__file__).parent
 SAY = "import velejume, velejume._library as it; print(it.library._name, velejume.phase(velejume.block_of('0:7')).cost)"
 
 
-def run(module, variable=None):
-    """What a fresh Python says that imports the module from that folder: its status, what it prints, the last line of its complaint."""
+def run(module, **variables):
+    """What a fresh Python says that imports the module from that folder, with these variables: its status, what it prints, its complaint."""
     environment = {name: value for name, value in os.environ.items() if name != "VELEJUME_LIBRARY"}
+    environment.update({name: str(value) for name, value in variables.items()})
     environment["PYTHONPATH"] = str(module.parent)
     environment["PYTHONDONTWRITEBYTECODE"] = "1"
-    if variable is not None:
-        environment["VELEJUME_LIBRARY"] = str(variable)
     done = subprocess.run([sys.executable, "-c", SAY], env=environment, cwd="/", stdout=subprocess.PIPE, stderr=subprocess.PIPE, text=True)
     return done.returncode, done.stdout.strip(), done.stderr
 
@@ -46,7 +45,15 @@ class Places(unittest.TestCase):
         named = self.room / "named.so"
         shutil.copy(library._name, named)
         shutil.copy(library._name, self.module / "libvelejume.so")
-        self.assertEqual(run(self.module, named)[:2], (0, f"{named} 0"))
+        self.assertEqual(run(self.module, VELEJUME_LIBRARY=named)[:2], (0, f"{named} 0"))
+
+    @unittest.skipUnless(shutil.which("ld") and shutil.which("objdump"), "Python asks ld and objdump for libraries outside the system's folders")
+    def test_in_the_system(self):
+        folder = self.room / "folder"
+        folder.mkdir()
+        for name in ("libvelejume.so", "libvelejume.so.0"):
+            shutil.copy(library._name, folder / name)
+        self.assertEqual(run(self.module, LD_LIBRARY_PATH=folder)[:2], (0, "libvelejume.so.0 0"))
 
     def test_nowhere(self):
         status, printed, complaint = run(self.module)
@@ -60,7 +67,7 @@ class Places(unittest.TestCase):
         empty.write_bytes(b"")
         for wrong in (empty, self.room / "none.so", "libc.so.6"):
             with self.subTest(str(wrong)):
-                status, _, complaint = run(self.module, wrong)
+                status, _, complaint = run(self.module, VELEJUME_LIBRARY=wrong)
                 self.assertNotEqual(status, 0)
                 self.assertIn(f"ImportError: {wrong} is no velejume library for this machine", complaint)
 

@@ -1,7 +1,5 @@
 """The answer, and the answer block."""
 
-from __future__ import annotations
-
 from dataclasses import dataclass, field
 from typing import Iterable, Optional, Union
 

@@ -1,7 +1,5 @@
 """What an answer of another program is worth."""
 
-from __future__ import annotations
-
 from dataclasses import dataclass
 from typing import Optional
 

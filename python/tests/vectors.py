@@ -25,13 +25,13 @@ class Judged(NamedTuple):
 
 
 def phased():
-    """Four lines a case, after a head: name, block, what was printed before letters could be `-`, what is printed."""
-    text = (FOLDER / "phase.txt").read_text()
-    for case in text.split("\n\n")[1:]:
-        lines = case.strip("\n").split("\n")
-        if len(lines) == 4:
-            name, block, _, printed = lines
-            yield Phased(name, bytes.fromhex(block), printed.replace(" | ", "\n"))
+    """After a head, four lines a case and a blank one: name, block, what was printed before letters could be `-`, what is printed. A block may
+    be empty, and its line then is."""
+    lines = (FOLDER / "phase.txt").read_text().splitlines()
+    begin = lines.index("") + 1
+    for at in range(begin, len(lines), 5):
+        name, block, _, printed = lines[at : at + 4]
+        yield Phased(name, bytes.fromhex(block), printed.replace(" | ", "\n"))
 
 
 def judged():

@@ -1,5 +1,6 @@
 # make run [BLOCK=file]                  phases a fragment block; the shipped example if none is given
 # make judge [BLOCK=file ANSWER=file]    judges an answer; the shipped one if none is given
+# make tool                              the tool velejume, rust/target/release/velejume
 # make corpus [FOLDER=dir]               judges a folder of answers
 # make lib                               the static library, target/staticlib/libvelejume.a
 # make shared                            the shared object, target/shared/libvelejume.so
@@ -9,10 +10,10 @@
 # make soak [SEED=n COUNT=n]             differential tests, as many as you like
 # make clean                             removes all that was proved and built
 #
-# All but help and clean need the Rattle toolchain (rt); corpus, bench, soak and test need cargo too, and test also awk, gcc, g++ and python3.
+# All but help and clean need the Rattle toolchain (rt); tool, corpus, install, bench, soak and test need cargo too, and test also awk, gcc, g++ and python3.
 # What is missing is proved first: some minutes the first time, crate by crate. README.md says more.
 
-.PHONY: help run both judge corpus lib shared install test bench soak clean
+.PHONY: help run both judge tool corpus lib shared install test bench soak clean
 # rt proves several crates at a time itself, and two of it would be in each other's way
 .NOTPARALLEL:
 
@@ -26,8 +27,7 @@ version := 0.1.0
 # what the Rust programs link: the shipped archive, or the same library for another processor
 linked := target/$(if $(filter x86_64,$(shell uname -m)),staticlib,native)/libvelejume.a
 sources := $(shell find crates -path '*/must-fail' -prune -o -type f -print) crates.txt
-# the Rust tool, where it is part of the workspace
-tool := $(if $(wildcard rust/tool/Cargo.toml),rust/target/release/velejume)
+tool := rust/target/release/velejume
 root := $(DESTDIR)$(PREFIX)
 module := $(DESTDIR)$(PYTHONDIR)/velejume
 
@@ -45,8 +45,10 @@ both:
 	@[ -z '$(BLOCK)' ] || [ -n '$(ANSWER)' ] || { echo 'make judge: BLOCK is given and ANSWER left out: make judge BLOCK=file ANSWER=file' >&2; exit 2; }
 	@[ -z '$(ANSWER)' ] || [ -n '$(BLOCK)' ] || { echo 'make judge: ANSWER is given and BLOCK left out: make judge BLOCK=file ANSWER=file' >&2; exit 2; }
 
-corpus: $(linked)
-	@cargo run --quiet --release --offline --manifest-path rust/Cargo.toml --bin corpus -- '$(FOLDER)'
+tool: $(tool)
+
+corpus: $(tool)
+	@$(tool) judge '$(FOLDER)'
 
 lib: target/staticlib/libvelejume.a
 

@@ -18,7 +18,8 @@ use Rattle.meaning.proofs.Bounds.{Bytes}
 use Rattle.meaning.proofs.AnswerBytes.{cost-is, flips-is, reads-is, columns-is, block-length, sides-part, hap1-part, hap2-part, length-sides, length-letters}
 use Rattle.meaning.proofs.Demand1.{demand1-accepted}
 use Rattle.meaning.proofs.Decoded.{flips-limit, cost-fits}
-use Rattle.text.specs.Text.{decimal, mark, line, costWord, flipsWord, sidesWord, hap1Word, hap2Word, sidesText, answerText, textOf}
+use Rattle.lines.specs.Line.{decimal, mark, line, sidesWord, hap1Word, hap2Word, sidesText}
+use Rattle.text.specs.Text.{costWord, flipsWord, answerText, textOf}
 use Rattle.text.specs.Put.{Whole}
 
 -- the lines of a cost, a number of flips, sides and both haplotypes

@@ -1,4 +1,2 @@
-pub mod Pieces
-pub mod Decimals
 pub mod Lines
 pub mod Accepted

@@ -1,19 +1,14 @@
 -- The lines by their cases. Assumes nothing.
 use Prim.Native.Nat.{ℕ, _+_, _-_}
 use mathlib.Core.Path.{_≡_}
-use mathlib.Core.List.{List, [], _++_, append-assoc, map}
+use mathlib.Core.List.{List, [], _++_, map}
 use native.Mathlib.Nat.{add-sub-cancel-left}
-use borrow.Author.Tests.{eq-eqb, ne-eqb}
-use lib.ListN.{length, take, drop}
+use borrow.Author.Tests.{ne-eqb}
+use lib.ListN.{take, drop}
 use Rattle.meaning.specs.Numbers.{word, long}
-use Rattle.text.specs.Text.{decimal, mark, line, costWord, flipsWord, sidesWord, noneWord, hap1Word, hap2Word, atWord, sidesText, answerText, numbersLine}
+use Rattle.lines.specs.Line.{decimal, mark, line, sidesWord, hap1Word, hap2Word, sidesText}
+use Rattle.text.specs.Text.{costWord, flipsWord, answerText}
 use Rattle.text.specs.Verdict.{oursWords, verdictWords}
-
-pub sides-none : (s : List ℕ) → length s ≡ 0 → line sidesWord noneWord ≡ line sidesWord (sidesText s)
-sides-none s h = rw (eq-eqb (length s) 0 h)
-
-pub sides-some : (s : List ℕ) → (length s ≡ 0 → ⊥) → line sidesWord (map mark s) ≡ line sidesWord (sidesText s)
-sides-some s h = rw (ne-eqb (length s) 0 h)
 
 -- the sides and the letters as the code's parts of the block have them
 pub answer-is : (b : List ℕ) (n m x y : ℕ) → n ≡ word b 13 → m ≡ word b 15 → x ≡ long b 5 → y ≡ long b 9
@@ -25,9 +20,6 @@ pub answer-is : (b : List ℕ) (n m x y : ℕ) → n ≡ word b 13 → m ≡ wor
     ≡ answerText b
 unfolding answerText
 answer-is b n m x y en em ex ey = simp add-sub-cancel-left (rw (en, em, ex, ey))
-
-pub numbers-is : (w : List ℕ) (x y : ℕ) → w ++ (decimal x ++ line atWord (decimal y)) ≡ numbersLine w x y
-numbers-is w x y = simp append-assoc
 
 -- the words of no other verdict
 pub ours-is : (x : ℕ) → (x ≡ 50 → ⊥) → (x ≡ 51 → ⊥) → (x ≡ 52 → ⊥) → (x ≡ 53 → ⊥) → (x ≡ 54 → ⊥) → (x ≡ 55 → ⊥) → (x ≡ 56 → ⊥)

@@ -3,7 +3,8 @@ use Prim.Native.Nat.{ℕ}
 use mathlib.Core.Path.{_≡_, refl}
 use mathlib.Core.List.{List, [], _∷_}
 use Rattle.meaning.specs.Numbers.{bigEndian}
-use Rattle.text.specs.Text.{digits, answerText, refusalText, textOf}
+use Rattle.lines.specs.Line.{digits}
+use Rattle.text.specs.Text.{answerText, refusalText, textOf}
 use Rattle.text.specs.Verdict.{verdictWords, judgedText}
 
 -- P1's answer block: cost 1, 1 flip, 4 sides, 2 columns

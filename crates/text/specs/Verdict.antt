@@ -3,7 +3,8 @@ use Prim.Native.Nat.{ℕ}
 use mathlib.Core.Bool.{cond}
 use mathlib.Core.List.{List, [], _∷_, _++_}
 use lib.Dec.{ltb, eqb}
-use Rattle.text.specs.Text.{line, numbersLine, refusalText}
+use Rattle.lines.specs.Line.{line, numbersLine}
+use Rattle.text.specs.Text.{refusalText}
 
 -- `verdict `
 abbrev pub verdictWord : List ℕ

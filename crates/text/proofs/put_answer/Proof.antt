@@ -2,7 +2,7 @@
 use borrow.Author.Needs.{needs}
 use Rattle.text.specs.Text.{answerText}
 use Rattle.text.proofs.Lines.{answer-is}
-use Rattle.text.proofs.Pieces.{put-as, joined}
+use Rattle.lines.proofs.Pieces.{put-as, joined}
 use Rattle.text.proofs.put_answer.Statement.{statement}
 use Rattle.text.proofs.put_answer.Tie as tie
 

@@ -3,10 +3,10 @@ use borrow.Author.Needs.{needs}
 use Prim.Native.Nat.{ℕ}
 use mathlib.Core.Path.{_≡_, sym, ap}
 use mathlib.Core.List.{List}
-use Rattle.text.specs.Put.{Put}
+use Rattle.lines.specs.Put.{Put}
 use Rattle.text.specs.Verdict.{verdictWords}
 use Rattle.text.proofs.Lines.{ours-is}
-use Rattle.text.proofs.Pieces.{put-as}
+use Rattle.lines.proofs.Pieces.{put-as}
 use Rattle.text.proofs.put_words.Statement.{statement}
 use Rattle.text.proofs.put_words.Tie as tie
 

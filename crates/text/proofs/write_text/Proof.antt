@@ -2,7 +2,7 @@
 use borrow.Author.Needs.{needs}
 use borrow.Author.Tests.{eq-eqb, ne-eqb}
 use Rattle.text.specs.Text.{textOf}
-use Rattle.text.proofs.Pieces.{front-ends, front-fits, front-holds}
+use Rattle.lines.proofs.Pieces.{front-ends, front-fits, front-holds}
 use Rattle.text.proofs.write_text.Statement.{statement}
 use Rattle.text.proofs.write_text.Tie as tie
 

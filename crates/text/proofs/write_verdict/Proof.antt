@@ -2,7 +2,7 @@
 use borrow.Author.Needs.{needs}
 use borrow.Author.Tests.{lt-ltb, le-ltb}
 use Rattle.text.specs.Verdict.{judgedText}
-use Rattle.text.proofs.Pieces.{joined, front-ends, front-fits, front-holds}
+use Rattle.lines.proofs.Pieces.{joined, front-ends, front-fits, front-holds}
 use Rattle.text.proofs.write_verdict.Statement.{statement}
 use Rattle.text.proofs.write_verdict.Tie as tie
 

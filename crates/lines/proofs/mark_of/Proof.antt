@@ -1,7 +1,7 @@
 -- `mark_of` meets its contract. Assumes nothing.
 use borrow.Author.Tests.{eq-eqb, ne-eqb}
-use Rattle.text.proofs.mark_of.Statement.{statement}
-use Rattle.text.proofs.mark_of.Tie as tie
+use Rattle.lines.proofs.mark_of.Statement.{statement}
+use Rattle.lines.proofs.mark_of.Tie as tie
 
 returns : tie.Need-returns
 returns c = rw (eq-eqb (c .before .args .x) 0 (c .if1 .taken))

@@ -1,10 +1,10 @@
 -- `put_sides_line` meets its contract: with no reads, and with some. Assumes nothing.
 use borrow.Author.Needs.{needs}
-use Rattle.text.specs.Text.{line, sidesWord, sidesText}
-use Rattle.text.proofs.Lines.{sides-none, sides-some}
-use Rattle.text.proofs.Pieces.{put-as}
-use Rattle.text.proofs.put_sides_line.Statement.{statement}
-use Rattle.text.proofs.put_sides_line.Tie as tie
+use Rattle.lines.specs.Line.{line, sidesWord, sidesText}
+use Rattle.lines.proofs.Lines.{sides-none, sides-some}
+use Rattle.lines.proofs.Pieces.{put-as}
+use Rattle.lines.proofs.put_sides_line.Statement.{statement}
+use Rattle.lines.proofs.put_sides_line.Tie as tie
 
 slice-aggregate-put-bytes : tie.Need-slice-aggregate-put-bytes
 slice-aggregate-put-bytes c = search needs

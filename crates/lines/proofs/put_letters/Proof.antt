@@ -1,8 +1,8 @@
 -- `put_letters` meets its contract: two lines, joined. Assumes nothing.
 use borrow.Author.Needs.{needs}
-use Rattle.text.proofs.Pieces.{joined}
-use Rattle.text.proofs.put_letters.Statement.{statement}
-use Rattle.text.proofs.put_letters.Tie as tie
+use Rattle.lines.proofs.Pieces.{joined}
+use Rattle.lines.proofs.put_letters.Statement.{statement}
+use Rattle.lines.proofs.put_letters.Tie as tie
 
 slice-aggregate-put-marks-line : tie.Need-slice-aggregate-put-marks-line
 slice-aggregate-put-marks-line c = search needs

@@ -5,10 +5,10 @@ use mathlib.Core.Path.{_≡_}
 use native.Mathlib.Omega.{arith}
 use lib.ListN.{length, take}
 use lib.Seq.{take-all}
-use Rattle.text.specs.Put.{Put}
-use Rattle.text.proofs.Pieces.{put-none, put-length, put-as, byte-put}
-use Rattle.text.proofs.put_bytes.Statement.{statement}
-use Rattle.text.proofs.put_bytes.Tie as tie
+use Rattle.lines.specs.Put.{Put}
+use Rattle.lines.proofs.Pieces.{put-none, put-length, put-as, byte-put}
+use Rattle.lines.proofs.put_bytes.Statement.{statement}
+use Rattle.lines.proofs.put_bytes.Tie as tie
 
 abbrev Inv-loop : tie.InvT-loop
 Inv-loop text₀ at bytes end₀ i₀ text end i = (i ≤ length bytes) × (end ≡ at + i) × Put text₀ at (take i bytes) text end

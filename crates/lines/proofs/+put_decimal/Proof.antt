@@ -5,16 +5,16 @@ use Prim.Native.Nat.{ℕ, _<_, _+_, _%_}
 use mathlib.Core.Path.{sym}
 use borrow.Fn.Kinds.{In}
 use borrow.Fn.PlainCycle.{Measures, is, falls, and}
-use Rattle.text.specs.Text.{decimal}
-use Rattle.text.proofs.Decimals.{decimal-one, decimal-more, shorter}
-use Rattle.text.proofs.Pieces.{put-as, one-as, joined}
-use Rattle.text.proofs.put_decimal.Reads as put-decimal
-use Rattle.text.proofs.put_decimal.Kinds as put-decimal-kinds
-use Rattle.text.proofs.+put_decimal.Lts-put_decimal as lts
-use Rattle.text.proofs.digit.Reads as digit-reads
-use Rattle.text.proofs.put_byte.Reads as put-byte-reads
-use Rattle.text.proofs.+put_decimal.{statement}
-use Rattle.text.proofs.+put_decimal.Tie.{close}
+use Rattle.lines.specs.Line.{decimal}
+use Rattle.lines.proofs.Decimals.{decimal-one, decimal-more, shorter}
+use Rattle.lines.proofs.Pieces.{put-as, one-as, joined}
+use Rattle.lines.proofs.put_decimal.Reads as put-decimal
+use Rattle.lines.proofs.put_decimal.Kinds as put-decimal-kinds
+use Rattle.lines.proofs.+put_decimal.Lts-put_decimal as lts
+use Rattle.lines.proofs.digit.Reads as digit-reads
+use Rattle.lines.proofs.put_byte.Reads as put-byte-reads
+use Rattle.lines.proofs.+put_decimal.{statement}
+use Rattle.lines.proofs.+put_decimal.Tie.{close}
 
 abbrev μ : Measures 1 put-decimal-kinds.ps ℕ
 μ κs a = a .1 .1 .0

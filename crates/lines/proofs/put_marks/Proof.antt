@@ -6,11 +6,11 @@ use mathlib.Core.List.{map}
 use native.Mathlib.Omega.{arith}
 use lib.ListN.{length, take}
 use lib.Seq.{take-all}
-use Rattle.text.specs.Text.{mark}
-use Rattle.text.specs.Put.{Put}
-use Rattle.text.proofs.Pieces.{put-none, put-length, put-as, one-as, mark-put}
-use Rattle.text.proofs.put_marks.Statement.{statement}
-use Rattle.text.proofs.put_marks.Tie as tie
+use Rattle.lines.specs.Line.{mark}
+use Rattle.lines.specs.Put.{Put}
+use Rattle.lines.proofs.Pieces.{put-none, put-length, put-as, one-as, mark-put}
+use Rattle.lines.proofs.put_marks.Statement.{statement}
+use Rattle.lines.proofs.put_marks.Tie as tie
 
 abbrev Inv-loop : tie.InvT-loop
 Inv-loop text₀ at marks end₀ i₀ text end i = (i ≤ length marks) × (end ≡ at + i) × Put text₀ at (map mark (take i marks)) text end

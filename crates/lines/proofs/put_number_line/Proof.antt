@@ -1,8 +1,8 @@
 -- `put_number_line` meets its contract: three pieces, joined. Assumes nothing.
 use borrow.Author.Needs.{needs}
-use Rattle.text.proofs.Pieces.{joined}
-use Rattle.text.proofs.put_number_line.Statement.{statement}
-use Rattle.text.proofs.put_number_line.Tie as tie
+use Rattle.lines.proofs.Pieces.{joined}
+use Rattle.lines.proofs.put_number_line.Statement.{statement}
+use Rattle.lines.proofs.put_number_line.Tie as tie
 
 put-bytes-requires : tie.Need-put-bytes-requires
 put-bytes-requires c κs = search needs

@@ -7,8 +7,8 @@ use native.Mathlib.Numerals.{add-one}
 use native.Mathlib.Omega.{arith}
 use lib.ListN.{length, take, drop, set, getD, length-append, length-take, length-drop, take-append-drop}
 use lib.Seq.{set-split, take-at, drop-at, drop-drop, length-take-le, take-suc}
-use Rattle.text.specs.Text.{mark}
-use Rattle.text.specs.Put.{Put}
+use Rattle.lines.specs.Line.{mark}
+use Rattle.lines.specs.Put.{Put}
 
 module _ {t p u : List ℕ} {at e : ℕ} (h : Put t at p u e) where
   pub put-length : length u ≡ length t

@@ -1,10 +1,10 @@
 -- `put_numbers` meets its contract: three pieces, joined. Assumes nothing.
 use borrow.Author.Needs.{needs}
-use Rattle.text.specs.Text.{numbersLine}
-use Rattle.text.proofs.Lines.{numbers-is}
-use Rattle.text.proofs.Pieces.{put-as, joined}
-use Rattle.text.proofs.put_numbers.Statement.{statement}
-use Rattle.text.proofs.put_numbers.Tie as tie
+use Rattle.lines.specs.Line.{numbersLine}
+use Rattle.lines.proofs.Lines.{numbers-is}
+use Rattle.lines.proofs.Pieces.{put-as, joined}
+use Rattle.lines.proofs.put_numbers.Statement.{statement}
+use Rattle.lines.proofs.put_numbers.Tie as tie
 
 put-bytes-requires : tie.Need-put-bytes-requires
 put-bytes-requires c κs = search needs

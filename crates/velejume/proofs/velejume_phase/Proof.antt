@@ -12,7 +12,7 @@ same-length-2 : tie.Need-same-length-2
 same-length-2 c = search needs
 
 returns : tie.Need-returns
-returns c = let e = c@After-phase .phase .ensures in (e .0, (e .1 .0, (e .1 .1 .0, e .1 .1 .1)))
+returns c = let e = c .before .before .before .before .phase .ensures in (e .0, (e .1 .0, (e .1 .1 .0, e .1 .1 .1)))
 
 pub velejume-phase-spec : {M : Type 1} → statement M
 velejume-phase-spec = tie.close (tie.spec phase-requires same-length same-length-2 returns)

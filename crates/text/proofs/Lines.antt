@@ -1,14 +1,12 @@
--- The lines by their cases. Assumes nothing.
+-- An answer block's five lines. Assumes nothing.
 use Prim.Native.Nat.{ℕ, _+_, _-_}
 use mathlib.Core.Path.{_≡_}
-use mathlib.Core.List.{List, [], _++_, map}
+use mathlib.Core.List.{List, _++_, map}
 use native.Mathlib.Nat.{add-sub-cancel-left}
-use borrow.Author.Tests.{ne-eqb}
 use lib.ListN.{take, drop}
 use Rattle.meaning.specs.Numbers.{word, long}
 use Rattle.lines.specs.Line.{decimal, mark, line, sidesWord, hap1Word, hap2Word, sidesText}
 use Rattle.text.specs.Text.{costWord, flipsWord, answerText}
-use Rattle.text.specs.Verdict.{oursWords, verdictWords}
 
 -- the sides and the letters as the code's parts of the block have them
 pub answer-is : (b : List ℕ) (n m x y : ℕ) → n ≡ word b 13 → m ≡ word b 15 → x ≡ long b 5 → y ≡ long b 9
@@ -20,10 +18,3 @@ pub answer-is : (b : List ℕ) (n m x y : ℕ) → n ≡ word b 13 → m ≡ wor
     ≡ answerText b
 unfolding answerText
 answer-is b n m x y en em ex ey = simp add-sub-cancel-left (rw (en, em, ex, ey))
-
--- the words of no other verdict
-pub ours-is : (x : ℕ) → (x ≡ 50 → ⊥) → (x ≡ 51 → ⊥) → (x ≡ 52 → ⊥) → (x ≡ 53 → ⊥) → (x ≡ 54 → ⊥) → (x ≡ 55 → ⊥) → (x ≡ 56 → ⊥)
-    → line oursWords [] ≡ verdictWords x
-unfolding verdictWords
-ours-is x a b c d e f g =
-    rw (ne-eqb x 50 a, ne-eqb x 51 b, ne-eqb x 52 c, ne-eqb x 53 d, ne-eqb x 54 e, ne-eqb x 55 f, ne-eqb x 56 g)

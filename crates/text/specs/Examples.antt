@@ -4,8 +4,9 @@ use mathlib.Core.Path.{_≡_, refl}
 use mathlib.Core.List.{List, [], _∷_}
 use Rattle.meaning.specs.Numbers.{bigEndian}
 use Rattle.lines.specs.Line.{digits}
+use Rattle.words.specs.Words.{verdictWords}
 use Rattle.text.specs.Text.{answerText, refusalText, textOf}
-use Rattle.text.specs.Verdict.{verdictWords, judgedText}
+use Rattle.text.specs.Verdict.{judgedText}
 
 -- P1's answer block: cost 1, 1 flip, 4 sides, 2 columns
 abbrev pub answerP1 : List ℕ

@@ -2,11 +2,11 @@
 // And that of `judge`: the two lines of a verdict, or the one of a refusal.
 ghost use mathlib.Core.Path.{_≡_};
 ghost use mathlib.Core.List.{_++_};
-ghost use Prim.Native.Nat.{_+_, _≤_};
+ghost use Prim.Native.Nat.{_≤_};
 ghost use lib.ListN.{length, drop};
 ghost use Rattle.lines.specs.Put.{Put};
 ghost use Rattle.text.specs.Text.{answerText, refusalText, textOf};
-ghost use Rattle.text.specs.Verdict.{verdictWords, judgedText};
+ghost use Rattle.text.specs.Verdict.{judgedText};
 ghost use Rattle.text.specs.Put.{Whole};
 
 fn put_answer(text: &mut [u8], answer: &[u8]) -> usize
@@ -30,27 +30,6 @@ fn put_refusal(text: &mut [u8], number: u32, second: u32) -> usize
     ensures { λ r. ⌜ Put (now (text .entry)) 0 (refusalText number second) (now (text .exit)) r ⌝ }
 {
     lines::put_numbers(text, b"refused ", number, second)
-}
-
-// The line that says a verdict in words.
-fn put_words(text: &mut [u8], at: usize, number: u32) -> usize
-    requires { ⌜ at + 50 ≤ length (now text) ⌝ }
-    ensures { λ r. ⌜ Put (now (text .entry)) at (verdictWords number) (now (text .exit)) r ⌝ }
-{
-    match number {
-        50 => lines::put_bytes(text, at, b"malformed\n"),
-        51 => lines::put_bytes(text, at, b"other n or m\n"),
-        52 => lines::put_bytes(text, at, b"a side above 1 or a letter above 2\n"),
-        53 => lines::put_bytes(text, at, b"a - where that side's sums differ\n"),
-        54 => lines::put_bytes(
-            text,
-            at,
-            b"stated cost not the weight of disagreeing entries\n",
-        ),
-        55 => lines::put_bytes(text, at, b"not least\n"),
-        56 => lines::put_bytes(text, at, b"least but other sides or letters than ours\n"),
-        _ => lines::put_bytes(text, at, b"ours\n"),
-    }
 }
 
 // Writes from the front of `text` what `phase` prints for a call's two numbers and its answer block, and answers its length.
@@ -78,5 +57,5 @@ pub fn write_verdict(number: u32, second: u32, text: &mut [u8]) -> usize
         return put_refusal(text, number, second);
     }
     let end = lines::put_numbers(text, b"verdict ", number, second);
-    put_words(text, end, number)
+    words::put_words(text, end, number)
 }

@@ -2,17 +2,25 @@
 use borrow.Author.Needs.{needs}
 use Prim.Native.Nat.{ℕ}
 use mathlib.Core.Path.{_≡_, sym, ap}
-use mathlib.Core.List.{List}
+use mathlib.Core.List.{List, []}
+use borrow.Author.Tests.{ne-eqb}
 use Rattle.lines.specs.Put.{Put}
-use Rattle.text.specs.Verdict.{verdictWords}
-use Rattle.text.proofs.Lines.{ours-is}
+use Rattle.lines.specs.Line.{line}
+use Rattle.words.specs.Words.{oursWords, verdictWords}
 use Rattle.lines.proofs.Pieces.{put-as}
-use Rattle.text.proofs.put_words.Statement.{statement}
-use Rattle.text.proofs.put_words.Tie as tie
+use Rattle.words.proofs.put_words.Statement.{statement}
+use Rattle.words.proofs.put_words.Tie as tie
 
 -- the words of the verdict that the number is
 said : {t u : List ℕ} {at e x : ℕ} (k : ℕ) → x ≡ k → Put t at (verdictWords k) u e → Put t at (verdictWords x) u e
 said {x = x} k s h = put-as h (verdictWords x) (ap verdictWords (sym s))
+
+-- the words of no other verdict
+ours-is : (x : ℕ) → (x ≡ 50 → ⊥) → (x ≡ 51 → ⊥) → (x ≡ 52 → ⊥) → (x ≡ 53 → ⊥) → (x ≡ 54 → ⊥) → (x ≡ 55 → ⊥) → (x ≡ 56 → ⊥)
+    → line oursWords [] ≡ verdictWords x
+unfolding verdictWords
+ours-is x a b c d e f g =
+    rw (ne-eqb x 50 a, ne-eqb x 51 b, ne-eqb x 52 c, ne-eqb x 53 d, ne-eqb x 54 e, ne-eqb x 55 f, ne-eqb x 56 g)
 
 slice-aggregate-put-bytes : tie.Need-slice-aggregate-put-bytes
 slice-aggregate-put-bytes c = search needs

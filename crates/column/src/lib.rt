@@ -13,7 +13,8 @@ pub fn fill(w: &[[u32; 2]; 12], turn: &[usize; 12], p: usize, taken: &[u32], par
     requires { ⌜ (p ≤ 12) × LightPairs (now w) p 65535 ⌝ }
     requires { ⌜ Room (now turn) p (now taken) ⌝ }
     requires { ⌜ used p ≤ length (now part) ⌝ }
-    ensures { λ _. ⌜ now (part .exit) ≡ passed (now (w .entry)) (now (turn .entry)) (now (taken .entry)) p (length (now (part .entry))) ⌝ }
+    ensures { λ _. ⌜ now (part .exit)
+        ≡ passed (now (w .entry)) (now (turn .entry)) (now (taken .entry)) p (length (now (part .entry))) ⌝ }
 {
     walk::pass(w, turn, p, taken, part);
     plain::clear(part, plain::entries(p));

@@ -74,7 +74,8 @@ fn three(
     s: [[u32; 2]; 2],
     part: &mut [u32],
 ) -> [[u32; 2]; 2]
-    requires { ⌜ (3 ≤ p) × (x .n % 4 ≡ 0) × (x .n < used p) × Walked (now w) (now turn) p (now taken) (x .n + 1) (now part) s (x .k) (x .q) ⌝ }
+    requires { ⌜ (3 ≤ p) × (x .n % 4 ≡ 0) × (x .n < used p)
+        × Walked (now w) (now turn) p (now taken) (x .n + 1) (now part) s (x .k) (x .q) ⌝ }
     ensures { λ r. ⌜ Walked (now (w .entry)) (now (turn .entry)) p (now (taken .entry)) (x .n + 4) (now (part .exit)) r
         (bitXor (x .k) 2) (bitXor (x .q) (getD (now (turn .entry)) 2 0)) ⌝ }
 {

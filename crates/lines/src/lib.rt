@@ -108,7 +108,9 @@ pub fn put_sides_line(text: &mut [u8], at: usize, sides: &[u8]) -> usize
 // The lines of both haplotypes.
 pub fn put_letters(text: &mut [u8], at: usize, first: &[u8], second: &[u8]) -> usize
     requires { ⌜ at + length (now first) + length (now second) + 12 ≤ length (now text) ⌝ }
-    ensures { λ r. ⌜ Put (now (text .entry)) at (line hap1Word (map mark (now (first .entry))) ++ line hap2Word (map mark (now (second .entry)))) (now (text .exit)) r ⌝ }
+    ensures { λ r. ⌜ Put (now (text .entry)) at
+        (line hap1Word (map mark (now (first .entry))) ++ line hap2Word (map mark (now (second .entry))))
+        (now (text .exit)) r ⌝ }
 {
     let end = put_marks_line(text, at, b"hap1 ", first);
     put_marks_line(text, end, b"hap2 ", second)

@@ -46,7 +46,8 @@ pub fn malformed(answer: &[u8]) -> bool
 // 51: other n or m.
 pub fn other_counts(shape: layout::Shape, answer: &[u8]) -> bool
     requires { ⌜ 17 ≤ length (now answer) ⌝ }
-    ensures { λ r. ⌜ r ≡ (not (eqb (statedReads (now (answer .entry))) (shape .n)) || not (eqb (statedColumns (now (answer .entry))) (shape .m))) ⌝ }
+    ensures { λ r. ⌜ r
+        ≡ (not (eqb (statedReads (now (answer .entry))) (shape .n)) || not (eqb (statedColumns (now (answer .entry))) (shape .m))) ⌝ }
 {
     if block::word_at(answer, 13) != shape.n {
         return true;
@@ -154,7 +155,8 @@ pub fn false_dash(shape: layout::Shape, reads: &[u8], tally: &[u32], answer: &[u
 fn weight(shape: layout::Shape, reads: &[u8], tally: &[u32], answer: &[u8]) -> u32
     requires { ⌜ StatedTally (matrixIn shape (now reads)) (now answer) (now tally) ⌝ }
     requires { ⌜ Sized (now answer) (shape .m) (shape .n) ⌝ }
-    ensures { λ r. ⌜ r ≡ disagreement (matrixIn shape (now (reads .entry))) (statedDivision (now (answer .entry))) (statedHaplotypes (now (answer .entry))) ⌝ }
+    ensures { λ r. ⌜ r
+        ≡ disagreement (matrixIn shape (now (reads .entry))) (statedDivision (now (answer .entry))) (statedHaplotypes (now (answer .entry))) ⌝ }
 {
     let mut total: u32 = 0;
     let mut j: usize = 0;
@@ -179,7 +181,8 @@ pub fn wrong_cost(shape: layout::Shape, reads: &[u8], tally: &[u32], answer: &[u
 // Some byte of the builder's sides is not ours.
 pub fn other_sides(ours: &[u8], theirs: &[u8]) -> bool
     requires { ⌜ length (now ours) ≡ length (now theirs) ⌝ }
-    ensures { λ r. ⌜ r ≡ anyTo (length (now (ours .entry))) (λ i. not (eqb (getD (now (theirs .entry)) i 0) (getD (now (ours .entry)) i 0))) ⌝ }
+    ensures { λ r. ⌜ r
+        ≡ anyTo (length (now (ours .entry))) (λ i. not (eqb (getD (now (theirs .entry)) i 0) (getD (now (ours .entry)) i 0))) ⌝ }
 {
     let mut i: usize = 0;
     while i < ours.len() {

@@ -33,7 +33,8 @@ fn added(letter: usize, weight: u8) -> u32
 
 // The cells of one read, from column `from` to the column before `to`.
 fn tally_read(cells: &[u8], size: usize, from: usize, to: usize, side: usize, tally: &mut [u32])
-    requires { ⌜ (size ≡ 2) × (from ≤ to) × (length (now cells) ≡ size * (to - from)) × (4 * to ≤ length (now tally)) × (side ≤ 1) ⌝ }
+    requires { ⌜ (size ≡ 2) × (from ≤ to) × (length (now cells) ≡ size * (to - from))
+        × (4 * to ≤ length (now tally)) × (side ≤ 1) ⌝ }
     requires { ⌜ ((i : ℕ) → i < to - from → badCell (cellAt size (now cells) i) ≡ false) ⌝ }
     requires { ⌜ ((j : ℕ) (s : Side) (l : Letter) → getD (now tally) (place j s l) 0 ≤ 1000000000) ⌝ }
     ensures { λ _. ⌜ ReadAdded (readFrom size from (to - from) (now (cells .entry))) (sideOf side)

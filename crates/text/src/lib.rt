@@ -38,7 +38,8 @@ pub fn write_text(number: u32, second: u32, answer: &[u8], text: &mut [u8]) -> u
     requires { ⌜ 4096 ≤ length (now text) ⌝ }
     ensures { λ r. ⌜ r ≡ length (textOf number second (now (answer .entry))) ⌝ }
     ensures { λ r. ⌜ r ≤ length (now (text .entry)) ⌝ }
-    ensures { λ _. ⌜ now (text .exit) ≡ textOf number second (now (answer .entry)) ++ drop (length (textOf number second (now (answer .entry)))) (now (text .entry)) ⌝ }
+    ensures { λ _. ⌜ now (text .exit)
+        ≡ textOf number second (now (answer .entry)) ++ drop (length (textOf number second (now (answer .entry)))) (now (text .entry)) ⌝ }
 {
     if number == 0 {
         return put_answer(text, answer);

@@ -174,7 +174,7 @@ fn judgement(
     let mut lists = [0u16; 13312];
     let mut scratch = [0u32; 4096];
     let mut sides = [0u8; 1024];
-    verdict::judge(
+    judging::judge(
         shape,
         reads,
         answer,

@@ -1,4 +1,3 @@
 pub mod Tallies
 pub mod Tabled
 pub mod Verdicts
-pub mod Judging

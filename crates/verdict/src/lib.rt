@@ -1,15 +1,11 @@
-// A builder's answer, judged: the refusals 9 and 10 of its reads, then, with the table filled, the first of the verdicts 50 to 57 that
-// applies.
+// The verdict on a builder's answer: with the table filled, the first of 50 to 57 that applies.
 ghost use mathlib.Core.Path.{_≡_};
-ghost use Prim.Native.Nat.{_*_, _≤_, min};
+ghost use Prim.Native.Nat.{_*_, _≤_};
 ghost use lib.ListN.{length};
-ghost use Rattle.meaning.specs.Active.{used};
-ghost use Rattle.meaning.specs.Judge.{otherAnswer, verdict, judgingOn};
-ghost use Rattle.layout.specs.Reads.{matrixIn, Lawful};
-ghost use Rattle.ready.specs.Piling.{Piling, ThinColumns};
-ghost use Rattle.solve.specs.Rooms.{Rooms};
+ghost use Rattle.meaning.specs.Judge.{otherAnswer, verdict};
+ghost use Rattle.layout.specs.Reads.{matrixIn};
 ghost use Rattle.stated.specs.Stated.{Sized, StatedTally};
-ghost use Rattle.verdict.specs.Judgements.{judgementNumbers, judgedOf};
+ghost use Rattle.verdict.specs.Judgements.{judgementNumbers};
 ghost use Rattle.verdict.specs.Stages.{Filled, Marked};
 
 // The refusals 9 with the column and 10 with the size needed, and the verdicts 50 to 57, 55 with the least cost.
@@ -87,7 +83,7 @@ fn weighed(
 }
 
 // The first verdict that applies, for reads whose table is filled. `tally` and `sides` are room to work in.
-fn judged(
+pub fn judged(
     shape: layout::Shape,
     reads: &[u8],
     places: &[u32],
@@ -112,68 +108,4 @@ fn judged(
         return Judgement::UnknownMark;
     }
     weighed(shape, reads, places, lists, t, work, tally, answer, sides)
-}
-
-// The check 10, then the table and the verdict. `t` is T.
-fn sized(
-    shape: layout::Shape,
-    reads: &[u8],
-    places: &[u32],
-    lists: &mut [u16],
-    t: usize,
-    scratch: &mut [u32],
-    work: &mut [u32],
-    answer: &[u8],
-    sides: &mut [u8],
-) -> Judgement
-    requires { ⌜ Piling shape (now reads) (now places) (now lists) ⌝ }
-    requires { ⌜ ThinColumns (matrixIn shape (now reads)) t ⌝ }
-    requires { ⌜ (used (min (shape .n) 12) ≤ length (now scratch)) × (4 * shape .m ≤ length (now scratch))
-        × (shape .n ≤ length (now sides)) ⌝ }
-    ensures { λ r. ⌜ judgedOf r (now (work .exit))
-        ≡ judgingOn (matrixIn shape (now (reads .entry))) (now (answer .entry)) (now (work .entry)) ⌝ }
-{
-    let need = shape.m * t;
-    if work.len() < need {
-        return Judgement::Work(need as u32);
-    }
-    ready::tabled(shape, reads, places, lists, t, scratch, work);
-    let e = 4 * shape.m;
-    let n = shape.n;
-    judged(
-        shape,
-        reads,
-        places,
-        lists,
-        t,
-        work,
-        &mut scratch[0..e],
-        answer,
-        &mut sides[0..n],
-    )
-}
-
-// Judges an answer to reads that pass the checks 5 to 8. The last four runs are room to work in.
-pub fn judge(
-    shape: layout::Shape,
-    reads: &[u8],
-    answer: &[u8],
-    work: &mut [u32],
-    places: &mut [u32],
-    lists: &mut [u16],
-    scratch: &mut [u32],
-    sides: &mut [u8],
-) -> Judgement
-    requires { ⌜ Lawful shape (now reads) ⌝ }
-    requires { ⌜ Rooms shape (now places) (now lists) (now scratch) × (shape .n ≤ length (now sides)) ⌝ }
-    ensures { λ r. ⌜ judgedOf r (now (work .exit))
-        ≡ judgingOn (matrixIn shape (now (reads .entry))) (now (answer .entry)) (now (work .entry)) ⌝ }
-{
-    let c = ready::piled(shape, reads, places, lists);
-    match c {
-        ready::Crowding::Crowded(j) => Judgement::Crowded(j),
-        ready::Crowding::Thin(t) => {
-            sized(shape, reads, places, lists, t, scratch, work, answer, sides)
-        }
-    }
 }

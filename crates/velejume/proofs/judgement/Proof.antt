@@ -4,7 +4,7 @@ use mathlib.Core.Path.{refl}
 use Rattle.velejume.proofs.Laws.{any-reads-room}
 use Rattle.velejume.proofs.judgement.Statement.{statement}
 use Rattle.velejume.proofs.judgement.Tie as tie
-use Rattle.verdict.proofs.judge.Reads as judge-reads
+use Rattle.judging.proofs.judge.Reads as judge-reads
 
 slice-aggregate-judge : tie.Need-slice-aggregate-judge
 slice-aggregate-judge c = search needs

@@ -8,11 +8,11 @@ use lib.Seq.{length-take-le}
 use Rattle.layout.specs.Reads.{matrixIn}
 use Rattle.ready.proofs.Piles.{table-fits}
 use Rattle.ready.proofs.Refused.{columns-right}
-use Rattle.verdict.proofs.Judging.{work-judging, verdict-judging}
-use Rattle.verdict.proofs.sized.Statement.{statement}
-use Rattle.verdict.proofs.sized.Tie as tie
+use Rattle.judging.proofs.Results.{work-judging, verdict-judging}
+use Rattle.judging.proofs.sized.Statement.{statement}
+use Rattle.judging.proofs.sized.Tie as tie
 use Rattle.ready.proofs.tabled.Reads as tabled-reads
 use Rattle.verdict.proofs.judged.Reads as judged-reads
 
 -- the table's size
 fits : (c : tie.Start) → c .args .shape .m * c .args .t ≤ 2097152

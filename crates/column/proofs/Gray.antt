@@ -135,3 +135,13 @@ pub record Visits (b : ℕ) : Type 0 where
 pub visits : (b : ℕ) → Visits b
 unfolding gray
 visits b = record { below = λ n l. xor-lt b n (n / 2) l (omega arith); visit = visited b; once = same-step b }
+
+-- a power of two has its digit alone
+pub lowest-power : (f b : ℕ) → b < f → trailingZeros f (2 ^ b) ≡ b
+unfolding trailingZeros
+lowest-power zero b l = absurd (omega arith)
+lowest-power (suc f) zero l = refl
+lowest-power (suc f) (suc b) l =
+    let even : 2 ^ suc b % 2 ≡ 0 = omega arith in
+    let half : 2 ^ suc b / 2 ≡ 2 ^ b = omega arith in
+    ap₂ (λ (r x : ℕ). under r (trailingZeros f x)) even half ∙ ap suc (lowest-power f b (omega arith))

@@ -10,6 +10,7 @@ use mathlib.Core.List.{List}
 use mathlib.Core.Logic.{_≢_}
 use mathlib.Core.Path.{_≡_, refl, sym, ap, ap₂, _∙_, subst}
 use native.Mathlib.Numerals.{add-one}
+use native.Mathlib.Decide.{decLe}
 use native.Mathlib.Omega.{arith}
 use Rattle.fold.specs.Turn.{sideAt}
 use Rattle.fold.proofs.Digits.{Turned}
@@ -22,11 +23,33 @@ use Rattle.sums.specs.Sums.{sumsOf, arrayOf, Small, weightOf, LightPairs, sumsW
 use Rattle.column.specs.Pass.{Room, entryAt}
 use Rattle.column.specs.Walk.{gray, Written, At, Walked, Turns}
 use Rattle.column.proofs.Moves.{sums-of-array, sums-with-ext, moved-sums, sums-small, charge-small, sums-movable}
-use Rattle.column.proofs.Gray.{gray-start, gray-step, gray-even, gray-odd, lowest-odd, lowest-two, lowest-lt, visits}
+use Rattle.column.proofs.Gray.{gray-start, gray-step, gray-even, gray-odd, lowest-odd, lowest-two, lowest-lt, lowest-power, visits}
 
 -- a column's entries are few
 pub used-small : (p : ℕ) → p ≤ 12 → used p ≤ 2048
 used-small p few = pow-mono {i = p - 1} {j = 11} (omega arith)
+
+-- of three reads or more there are four entries at least
+pub used-four : (p : ℕ) → 3 ≤ p → 4 ≤ used p
+used-four p l = pow-mono {i = 2} {j = p - 1} (omega arith)
+
+-- the digit of a step tells whether it is one of the walk's: the step after the last turns a digit that no read has
+pub step-inside : (p n d : ℕ) → p ≤ 12 → n ≤ used p → d ≡ trailingZeros 64 n → d < p - 1 → n < used p
+step-inside p n d few le e l = go (decLe (suc n) (used p))
+  where
+    go : Dec (n < used p) → n < used p
+    go (yes h) = h
+    go (no h) =
+        let z : n ≡ used p = omega arith in
+        let w : d ≡ p - 1 = e ∙ ap (trailingZeros 64) z ∙ lowest-power 64 (p - 1) (omega arith) in
+        absurd (omega arith)
+
+pub step-outside : (p n d : ℕ) → 0 < n → d ≡ trailingZeros 64 n → p - 1 ≤ d → used p ≤ n
+step-outside p n d some e l = go (decLe (suc n) (used p))
+  where
+    go : Dec (n < used p) → used p ≤ n
+    go (yes h) = absurd (omega (arith, e, lowest-lt 64 (p - 1) n some h))
+    go (no h) = omega arith
 
 -- of three reads or more, as many as come in fours
 pub used-fours : (p n : ℕ) → 3 ≤ p → n % 4 ≡ 0 → n < used p → n + 3 < used p

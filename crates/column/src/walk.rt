@@ -27,8 +27,8 @@ fn entry(s: [[u32; 2]; 2], taken: &[u32], q: usize) -> u32
 
 // The digit that step n turns: the lowest that is 1 in n.
 fn digit(n: usize) -> usize
-    requires { ⌜ (0 < n) × (n < 2048) ⌝ }
-    ensures { λ r. ⌜ (r ≡ trailingZeros 64 n) × (r < 11) ⌝ }
+    requires { ⌜ (0 < n) × (n ≤ 2048) ⌝ }
+    ensures { λ r. ⌜ (r ≡ trailingZeros 64 n) × (r < 12) ⌝ }
 {
     u64::trailing_zeros(n as u64) as usize
 }
@@ -114,14 +114,14 @@ pub fn pass(w: &[[u32; 2]; 12], turn: &[usize; 12], p: usize, taken: &[u32], par
         }
         return;
     }
-    let e = plain::entries(p);
     let x = Stand { n: 0, k: 0, q: 0 };
     let mut s = three(w, turn, p, taken, x, start, part);
     let mut k: usize = 2;
     let mut q = turn[2];
     let mut n: usize = 4;
-    while n < e {
-        let d = digit(n);
+    let mut d: usize = 2;
+    // there is no read for the digit of the step after the last
+    while d < p - 1 {
         let from = (k >> d) & 1;
         let x = Stand { n: n, k: k, q: q };
         let t = step(w, turn, p, taken, x, s, d, from, part);
@@ -133,5 +133,6 @@ pub fn pass(w: &[[u32; 2]; 12], turn: &[usize; 12], p: usize, taken: &[u32], par
         k = k ^ 2;
         q = q ^ turn[2];
         n += 4;
+        d = digit(n);
     }
 }

@@ -1,6 +1,7 @@
 use borrow.Author.Needs.{needs}
 use native.Mathlib.Omega.{arith}
-use Prim.Native.Nat.{_-_, _%_, _≤_, _<_}
+use Prim.Native.Nat.{_+_, _-_, _%_, _≤_, _<_}
+use lib.Count.{trailingZeros}
 use lib.ListN.{length, set, length-set}
 use lib.Pow.{pow-mono}
 use mathlib.Core.Path.{_≡_, refl, ap, _∙_}
@@ -8,15 +9,16 @@ use Rattle.meaning.specs.Active.{used}
 use Rattle.plain.proofs.Laws.{one-shl}
 use Rattle.column.specs.Walk.{At, Walked}
 use Rattle.column.proofs.Laws.{and-one}
-use Rattle.column.proofs.Steps.{used-small, at-start, at-fits, walked-start, walked-all, first-turns}
+use Rattle.column.proofs.Steps.{used-small, used-four, used-fours, step-inside, step-outside, at-start, at-fits, walked-start, walked-all, first-turns}
 use Rattle.column.proofs.walk.pass.Statement.{statement}
 use Rattle.column.proofs.walk.pass.Tie as tie
 
 abbrev Inv-loop : tie.InvT-loop
-Inv-loop w turn p taken part₀ e s₀ k₀ q₀ n₀ part s k q n = (0 < n) × (n % 4 ≡ 0) × (length part ≡ length part₀) × Walked w turn p taken n part s k q
+Inv-loop w turn p taken part₀ s₀ k₀ q₀ n₀ d₀ part s k q n d =
+    (0 < n) × (n % 4 ≡ 0) × (n ≤ used p) × (d ≡ trailingZeros 64 n) × (length part ≡ length part₀) × Walked w turn p taken n part s k q
 
 abbrev μ-loop : tie.MeasureT-loop
-μ-loop w turn p taken part₀ e s₀ k₀ q₀ n₀ part s k q n = e - n
+μ-loop w turn p taken part₀ s₀ k₀ q₀ n₀ d₀ part s k q n d = used p - n
 
 sums-requires : tie.Need-sums-requires Inv-loop μ-loop
 sums-requires c κs = search needs
@@ -52,37 +54,41 @@ returns-2 c =
     let few : c .before .before .before .before .before .before .args .p - 1 ≤ 0 = omega (arith, c .if2 .left) in
     walked-all (begun (c .before .before)) (pow-mono few)
 
-entries-requires : tie.Need-entries-requires Inv-loop μ-loop
-entries-requires c κs = search needs
-
 three-requires : tie.Need-three-requires Inv-loop μ-loop
 three-requires c κs =
-    let h = begun (c .before .before .before) in
-    (omega (arith, c .before .before .if1 .left), refl, h .at .below, h)
+    let h = begun (c .before .before) in
+    (omega (arith, c .before .if1 .left), refl, h .at .below, h)
 
 element-copy-out-q : tie.Need-element-copy-out-q Inv-loop μ-loop
 element-copy-out-q c = search needs
 
 loop-holds : tie.Need-loop-holds Inv-loop μ-loop
-loop-holds c = (omega arith, refl, refl, c .before .before .before .three .ensures)
+unfolding trailingZeros
+loop-holds c =
+    let s = c .before .before .before .before .before .before .before .before .before .before in
+    (omega arith, refl, used-four (s .args .p) (omega (arith, c .before .before .before .before .before .if1 .left)), refl, refl, c .before .before .before .three .ensures)
 
--- step n is one of the walk's
-below : (c : tie.In-loop Inv-loop μ-loop) → (c .before .loop .n < used (c .before .before .before .before .before .before .before .before .before .before .before .before .before .args .p)) × (used (c .before .before .before .before .before .before .before .before .before .before .before .before .before .args .p) ≤ 2048)
-below c = (omega (arith, c .loop-test .taken, c .before .before .before .before .before .before .before .entries .ensures), used-small _ (c .before .loop .inv .3 .at .few))
+sub-loop : tie.Need-sub-loop Inv-loop μ-loop
+sub-loop c = omega (arith, c .before .before .before .before .before .before .if1 .left)
 
-digit-requires : tie.Need-digit-requires Inv-loop μ-loop
-digit-requires c κs = (c .before .loop .inv .0, omega (arith, below c))
+-- step n is one of the walk's, and so are the three after it
+below : (c : tie.In-loop Inv-loop μ-loop) → (c .before .loop .n + 3 < used (c .before .before .before .before .before .before .before .before .before .before .before .before .args .p)) × (used (c .before .before .before .before .before .before .before .before .before .before .before .before .args .p) ≤ 2048)
+below c =
+    let l = c .before .loop in
+    let few = l .inv .5 .at .few in
+    let inside = step-inside _ (l .n) (l .d) few (l .inv .2) (l .inv .3) (c .loop-test .taken) in
+    (used-fours _ (l .n) (omega (arith, c .before .before .before .before .before .before .before .if1 .left)) (l .inv .1) inside, used-small _ few)
 
 shr-from : tie.Need-shr-from Inv-loop μ-loop
-shr-from c = search needs
+shr-from c = omega (arith, c .loop-test .taken, c .before .loop .inv .5 .at .few)
 
 step-requires-2 : tie.Need-step-requires-2 Inv-loop μ-loop
 step-requires-2 c κs =
-    let l = c .before .before .before .loop in
-    record { some = l .inv .0; below = below (c .before .before) .0; lowest = c .before .digit .ensures .0; side = and-one _; walked = l .inv .3 }
+    let l = c .before .before .loop in
+    record { some = l .inv .0; below = omega (arith, below (c .before)); lowest = l .inv .3; side = and-one _; walked = l .inv .5 }
 
 shl-k : tie.Need-shl-k Inv-loop μ-loop
-shl-k c = search needs
+shl-k c = omega (arith, c .before .before .before .before .loop-test .taken, c .before .before .before .before .before .loop .inv .5 .at .few)
 
 add-q : tie.Need-add-q Inv-loop μ-loop
 add-q c = search needs
@@ -95,37 +101,44 @@ element-copy-out-q-2 c = search needs
 
 three-requires-2 : tie.Need-three-requires-2 Inv-loop μ-loop
 three-requires-2 c κs =
-    let l = c .before .before .before .before .before .before .before .before .loop in
-    let d = c .before .before .before .before .before .before .digit in (
-      omega (arith, c .before .before .before .before .before .before .before .before .before .before .before .before .before .before .before .if1 .left),
+    let l = c .before .before .before .before .before .before .before .loop in
+    let few = l .inv .5 .at .few in (
+      omega (arith, c .before .before .before .before .before .before .before .before .before .before .before .before .before .if1 .left),
       l .inv .1,
-      below (c .before .before .before .before .before .before .before) .0,
-      rw (one-shl (d .result) (omega (arith, d .ensures .1))) (c .before .before .before .before .step2 .ensures),
+      omega (arith, below (c .before .before .before .before .before .before)),
+      rw (one-shl (l .d) (omega (arith, few, c .before .before .before .before .before .before .loop-test .taken))) (c .before .before .before .before .step2 .ensures),
     )
 
 element-copy-out-q-3 : tie.Need-element-copy-out-q-3 Inv-loop μ-loop
 element-copy-out-q-3 c = search needs
 
 add-n : tie.Need-add-n Inv-loop μ-loop
-add-n c = omega (arith, below (c .before .before .before .before .before .before .before .before .before .before .before))
+add-n c = omega (arith, below (c .before .before .before .before .before .before .before .before .before .before))
+
+digit-requires : tie.Need-digit-requires Inv-loop μ-loop
+digit-requires c κs = (omega arith, omega (arith, below (c .before .before .before .before .before .before .before .before .before .before)))
 
 loop-less : tie.Need-loop-less Inv-loop μ-loop
-loop-less c = omega (arith, c .before .before .before .before .before .before .before .before .before .before .before .loop-test .taken)
+loop-less c = omega (arith, below (c .before .before .before .before .before .before .before .before .before .before .before))
 
 loop-again : tie.Need-loop-again Inv-loop μ-loop
 loop-again c =
     let l = c .before .before .before .before .before .before .before .before .before .before .before .before .loop in (
       omega arith,
       omega (arith, l .inv .1),
-      c .before .before .before .three2 .kept .1 .1 .1 .1 .1 .1 .0 ∙ c .before .before .before .before .before .before .before .before .step2 .kept .1 .1 .1 .1 .1 .1 .1 .1 .0 ∙ l .inv .2,
-      c .before .before .before .three2 .ensures,
+      omega (arith, below (c .before .before .before .before .before .before .before .before .before .before .before)),
+      c .digit .ensures .0,
+      c .before .before .before .before .three2 .kept .1 .1 .1 .1 .1 .1 .0 ∙ c .before .before .before .before .before .before .before .before .before .step2 .kept .1 .1 .1 .1 .1 .1 .1 .1 .0 ∙ l .inv .4,
+      c .before .before .before .before .three2 .ensures,
     )
 
 same-length-3 : tie.Need-same-length-3 Inv-loop μ-loop
-same-length-3 c = c .before .loop .inv .2 ∙ simp length-set at (c .before .before .before .before .before .three .kept .1 .1 .1 .1 .1 .1 .0)
+same-length-3 c = c .before .loop .inv .4 ∙ simp length-set at (c .before .before .before .before .before .three .kept .1 .1 .1 .1 .1 .1 .0)
 
 returns-3 : tie.Need-returns-3 Inv-loop μ-loop
-returns-3 c = walked-all (c .before .loop .inv .3) (omega (arith, c .loop-test .left, c .before .before .before .before .before .before .before .entries .ensures))
+returns-3 c =
+    let l = c .before .loop in
+    walked-all (l .inv .5) (step-outside _ (l .n) (l .d) (l .inv .0) (l .inv .3) (c .loop-test .left))
 
 pub pass-spec : {M : Type 1} → statement M
 pass-spec =
@@ -141,11 +154,10 @@ pass-spec =
     returns
     same-length-2
     returns-2
-    entries-requires
     three-requires
     element-copy-out-q
     loop-holds
-    digit-requires
+    sub-loop
     shr-from
     step-requires-2
     shl-k
@@ -155,6 +167,7 @@ pass-spec =
     three-requires-2
     element-copy-out-q-3
     add-n
+    digit-requires
     loop-less
     loop-again
     same-length-3

@@ -13,7 +13,8 @@ use Rattle.meaning.specs.Refusals.{Numbers, passed, refuse, orElse, headerRefus
 use Rattle.meaning.proofs.Formed.{reads-sound}
 use Rattle.meaning.proofs.Refusals.{or-pass, or-stop}
 use Rattle.layout.specs.declared.Shape.{Shape}
-use Rattle.block.specs.Answers.{Sized, Passes}
+use Rattle.header.specs.Header.{Sized}
+use Rattle.block.specs.Answers.{Passes}
 
 module _ (b : List ℕ) where
   -- the reads, as the code cuts them off

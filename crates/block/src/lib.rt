@@ -1,187 +1,13 @@
-// A fragment block: its header, the search through its reads, the refusals 1 to 8, and where each read lies.
+// A fragment block: the checks 1 to 8, from its header to the last of its reads.
 ghost use mathlib.Core.Path.{_≡_};
-ghost use Prim.Native.Nat.{_+_, _*_, _≤_, _<_};
-ghost use lib.ListN.{length, drop};
-ghost use Rattle.meaning.specs.Numbers.{word, long};
-ghost use Rattle.meaning.specs.Refusals.{passed, headerRefusal, readsFault, blockRefusal};
-ghost use Rattle.layout.specs.Reads.{Lawful};
-ghost use Rattle.layout.specs.Places.{Noted};
-ghost use Rattle.block.specs.Answers.{headerNumber, headerSizes, Sized, headNumber, headFault, HeadPlace};
-ghost use Rattle.block.specs.Answers.{searchNumbers, SearchEnd, checkedNumbers, checkedSizes};
-ghost use Rattle.block.specs.Cells.{faultyCell};
-
-// What a header says: which of the checks 1 to 4 applies, or the shape of its reads.
-pub enum Header {
-    Short,
-    Version,
-    Size,
-    Counts,
-    Sizes(layout::Shape),
-}
-
-// What stands before a read's cells: 5, 6, or where its cells start and end.
-pub enum Head {
-    Length,
-    Place,
-    Cells { start: usize, end: usize },
-}
-
-// What the search through the reads finds: 5, 6 or 7 with the read, or where the reads end.
-pub enum Search {
-    Length(usize),
-    Place(usize),
-    Cell(usize),
-    End(usize),
-}
+ghost use Rattle.meaning.specs.Refusals.{passed, headerRefusal, blockRefusal};
+ghost use Rattle.header.specs.Header.{Sized};
+ghost use Rattle.block.specs.Answers.{checkedNumbers, checkedSizes};
 
 // The checks 1 to 8 of a block: the two numbers of a refusal, or the shape of its reads.
 pub enum Verdict {
     Refused { number: u32, second: u32 },
     Passed(layout::Shape),
-}
-
-// The big-endian number of the two bytes from `at` on.
-pub fn word_at(b: &[u8], at: usize) -> usize
-    requires { ⌜ at + 2 ≤ length (now b) ⌝ }
-    ensures { λ r. ⌜ (r ≡ word (now (b .entry)) at) × (r < 65536) ⌝ }
-{
-    plain::wide(b[at]) * 256 + plain::wide(b[at + 1])
-}
-
-// The big-endian number of the four bytes from `at` on.
-pub fn long_at(b: &[u8], at: usize) -> usize
-    requires { ⌜ at + 4 ≤ length (now b) ⌝ }
-    ensures { λ r. ⌜ (r ≡ long (now (b .entry)) at) × (r < 4294967296) ⌝ }
-{
-    word_at(b, at) * 65536 + word_at(b, at + 2)
-}
-
-// The checks 1 to 4.
-fn check_header(block: &[u8]) -> Header
-    ensures { λ r. ⌜ headerNumber r ≡ headerRefusal 1 (now (block .entry)) ⌝ }
-    ensures { λ r. ⌜ headerSizes (now (block .entry)) r ⌝ }
-{
-    if block.len() < 9 {
-        return Header::Short;
-    }
-    if block[0] != 1 {
-        return Header::Version;
-    }
-    if long_at(block, 1) != block.len() - 5 {
-        return Header::Size;
-    }
-    let m = word_at(block, 5);
-    let n = word_at(block, 7);
-    if m == 0 {
-        return Header::Counts;
-    }
-    if m > 1024 {
-        return Header::Counts;
-    }
-    if n > 1024 {
-        return Header::Counts;
-    }
-    Header::Sizes(layout::Shape {
-        size: 2,
-        m: m,
-        n: n,
-    })
-}
-
-// Whether cell i of a read's cells is faulty: a letter above 2, a hole with weight, or a hole that is the first or the last cell.
-fn cell_bad(cells: &[u8], size: usize, i: usize) -> bool
-    requires { ⌜ (size ≡ 2) × (size * i + 1 < length (now cells)) ⌝ }
-    ensures { λ r. ⌜ r ≡ faultyCell size (now (cells .entry)) i ⌝ }
-{
-    let at = size * i;
-    let letter = cells[at];
-    if letter < 2 {
-        return false;
-    }
-    if letter > 2 {
-        return true;
-    }
-    if cells[at + 1] != 0 {
-        return true;
-    }
-    if i == 0 {
-        return true;
-    }
-    at + size == cells.len()
-}
-
-// The read at `at`: the checks 5 and 6.
-fn read_head(shape: layout::Shape, reads: &[u8], at: usize) -> Head
-    requires { ⌜ (at ≤ length (now reads)) × ((0 < shape .size) × (shape .m ≤ 1024)) ⌝ }
-    ensures { λ r. ⌜ headNumber r ≡ headFault (shape .size) (shape .m) (drop at (now (reads .entry))) ⌝ }
-    ensures { λ r. ⌜ HeadPlace (shape .size) (now (reads .entry)) at r ⌝ }
-{
-    let size = shape.size;
-    if reads.len() - at < 2 {
-        return Head::Length;
-    }
-    let len = word_at(reads, at);
-    if len < 2 {
-        return Head::Length;
-    }
-    if (len - 2) % size != 0 {
-        return Head::Length;
-    }
-    if reads.len() - at < len + 2 {
-        return Head::Length;
-    }
-    let first = word_at(reads, at + 2);
-    let count = (len - 2) / size;
-    if count == 0 {
-        if first != 0 {
-            return Head::Place;
-        }
-    }
-    if first + count > shape.m {
-        return Head::Place;
-    }
-    Head::Cells {
-        start: at + 4,
-        end: at + len + 2,
-    }
-}
-
-// The checks 5, 6 and 7 of the n reads: the search stops at the first faulty cell of the first faulty read.
-fn first_fault(shape: layout::Shape, reads: &[u8]) -> Search
-    requires { ⌜ (shape .size ≡ 2) × ((shape .m ≤ 1024) × (shape .n ≤ 1024)) ⌝ }
-    ensures { λ r. ⌜ searchNumbers r ≡ readsFault (shape .size) (shape .m) (shape .n) 0 (now (reads .entry)) ⌝ }
-    ensures { λ r. ⌜ SearchEnd (now (reads .entry)) (shape .n) r ⌝ }
-{
-    let size = shape.size;
-    let mut at: usize = 0;
-    let mut r: usize = 0;
-    'reads: loop {
-        if r >= shape.n {
-            break 'reads Search::End(at);
-        }
-        let h = read_head(shape, reads, at);
-        match h {
-            Head::Length => {
-                break 'reads Search::Length(r);
-            }
-            Head::Place => {
-                break 'reads Search::Place(r);
-            }
-            Head::Cells { start, end } => {
-                let cells = &reads[start..end];
-                let count = cells.len() / size;
-                let mut i: usize = 0;
-                while i < count {
-                    if cell_bad(cells, size, i) {
-                        break 'reads Search::Cell(r);
-                    }
-                    i += 1;
-                }
-                at = end;
-            }
-        }
-        r += 1;
-    }
 }
 
 // The checks 5 to 8, of a block whose header passes.
@@ -191,20 +17,20 @@ fn check_reads(block: &[u8], shape: layout::Shape) -> Verdict
     ensures { λ r. ⌜ checkedSizes (now (block .entry)) r ⌝ }
 {
     let reads = &block[9..];
-    match first_fault(shape, reads) {
-        Search::Length(r) => Verdict::Refused {
+    match reads::first_fault(shape, reads) {
+        reads::Search::Length(r) => Verdict::Refused {
             number: 5,
             second: r as u32,
         },
-        Search::Place(r) => Verdict::Refused {
+        reads::Search::Place(r) => Verdict::Refused {
             number: 6,
             second: r as u32,
         },
-        Search::Cell(r) => Verdict::Refused {
+        reads::Search::Cell(r) => Verdict::Refused {
             number: 7,
             second: r as u32,
         },
-        Search::End(at) => {
+        reads::Search::End(at) => {
             if at < reads.len() {
                 return Verdict::Refused {
                     number: 8,
@@ -221,43 +47,23 @@ pub fn checked(block: &[u8]) -> Verdict
     ensures { λ r. ⌜ checkedNumbers r ≡ blockRefusal 1 (now (block .entry)) ⌝ }
     ensures { λ r. ⌜ checkedSizes (now (block .entry)) r ⌝ }
 {
-    match check_header(block) {
-        Header::Short => Verdict::Refused {
+    match header::check_header(block) {
+        header::Header::Short => Verdict::Refused {
             number: 1,
             second: 0,
         },
-        Header::Version => Verdict::Refused {
+        header::Header::Version => Verdict::Refused {
             number: 2,
             second: 0,
         },
-        Header::Size => Verdict::Refused {
+        header::Header::Size => Verdict::Refused {
             number: 3,
             second: 0,
         },
-        Header::Counts => Verdict::Refused {
+        header::Header::Counts => Verdict::Refused {
             number: 4,
             second: 0,
         },
-        Header::Sizes(shape) => check_reads(block, shape),
-    }
-}
-
-// Where each read's cells start, its first column, and the column after its last.
-pub fn places(shape: layout::Shape, reads: &[u8], places: &mut [u32])
-    requires { ⌜ Lawful shape (now reads) × (3 * shape .n ≤ length (now places)) ⌝ }
-    ensures { λ _. ⌜ Noted shape (now (reads .entry)) (now (places .exit)) ⌝ }
-{
-    let size = shape.size;
-    let mut at: usize = 0;
-    let mut r: usize = 0;
-    while r < shape.n {
-        let len = word_at(reads, at);
-        let first = word_at(reads, at + 2);
-        let k = 3 * r;
-        places[k] = (at + 4) as u32;
-        places[k + 1] = first as u32;
-        places[k + 2] = (first + (len - 2) / size) as u32;
-        at = at + 2 + len;
-        r += 1;
+        header::Header::Sizes(shape) => check_reads(block, shape),
     }
 }

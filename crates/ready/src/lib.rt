@@ -24,7 +24,7 @@ pub fn piled(shape: layout::Shape, reads: &[u8], places: &mut [u32], lists: &mut
     ensures { λ _. ⌜ Piling shape (now (reads .entry)) (now (places .exit)) (now (lists .exit)) ⌝ }
     ensures { λ r. ⌜ ColumnsFound (matrixIn shape (now (reads .entry))) r ⌝ }
 {
-    block::places(shape, reads, places);
+    reads::places(shape, reads, places);
     pile::heights(places, shape.n, lists);
     let h = pile::tallest(lists, shape.m);
     match h {

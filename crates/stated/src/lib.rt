@@ -34,12 +34,12 @@ pub fn malformed(answer: &[u8]) -> bool
     if answer[0] != 2 {
         return true;
     }
-    let said = block::long_at(answer, 1);
+    let said = layout::long_at(answer, 1);
     if said != answer.len() - 5 {
         return true;
     }
-    let n = block::word_at(answer, 13);
-    let m = block::word_at(answer, 15);
+    let n = layout::word_at(answer, 13);
+    let m = layout::word_at(answer, 15);
     said != 12 + n + 2 * m
 }
 
@@ -49,10 +49,10 @@ pub fn other_counts(shape: layout::Shape, answer: &[u8]) -> bool
     ensures { λ r. ⌜ r
         ≡ (not (eqb (statedReads (now (answer .entry))) (shape .n)) || not (eqb (statedColumns (now (answer .entry))) (shape .m))) ⌝ }
 {
-    if block::word_at(answer, 13) != shape.n {
+    if layout::word_at(answer, 13) != shape.n {
         return true;
     }
-    block::word_at(answer, 15) != shape.m
+    layout::word_at(answer, 15) != shape.m
 }
 
 // Whether one of the bytes is above `most`.
@@ -88,7 +88,7 @@ fn column_at(shape: layout::Shape, reads: &[u8], j: usize, tally: &[u32], answer
     requires { ⌜ Sized (now answer) (shape .m) (shape .n) × (j < shape .m) ⌝ }
     ensures { λ r. ⌜ Stands (matrixIn shape (now (reads .entry))) (now (answer .entry)) j r ⌝ }
 {
-    let s = tally::sums(tally, j);
+    let s = letters::sums(tally, j);
     let a = 17 + shape.n;
     let b = a + shape.m;
     let x = answer[a + j];
@@ -128,7 +128,7 @@ fn against(x: SideAt) -> u32
 fn other_letter(x: SideAt) -> bool
     ensures { λ r. ⌜ r ≡ otherOf x ⌝ }
 {
-    x.letter != tally::reported(x.w0, x.w1)
+    x.letter != letters::reported(x.w0, x.w1)
 }
 
 // 53: a `-` where that side's sums differ.
@@ -175,7 +175,7 @@ pub fn wrong_cost(shape: layout::Shape, reads: &[u8], tally: &[u32], answer: &[u
     ensures { λ r. ⌜ r ≡ wrongCost (matrixIn shape (now (reads .entry))) (now (answer .entry)) ⌝ }
 {
     let w = weight(shape, reads, tally, answer);
-    block::long_at(answer, 5) != w as usize
+    layout::long_at(answer, 5) != w as usize
 }
 
 // Some byte of the builder's sides is not ours.

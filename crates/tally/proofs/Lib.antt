@@ -1,4 +1,2 @@
 pub mod Turns
 pub mod Walk
-pub mod Parts
-pub mod Sides

@@ -1,6 +1,6 @@
 -- The tally of a matrix: for each column, side and letter how many entries it has, and their weight.
 use Prim.Native.Nat.{ℕ, _+_, _*_, _≤_, _<_}
-use mathlib.Core.Bool.{true, false, cond, Bool·beq}
+use mathlib.Core.Bool.{cond, Bool·beq}
 use mathlib.Core.List.{List}
 use mathlib.Core.Path.{_≡_}
 use lib.Dec.{eqb}
@@ -9,10 +9,8 @@ use Rattle.meaning.specs.Numbers.{bit, sumTo}
 use Rattle.meaning.specs.Block.{Cell, Read, Matrix}
 use Rattle.meaning.specs.Active.{count, read, at}
 use Rattle.meaning.specs.Division.{Side, Division}
-use Rattle.meaning.specs.Charge.{Letter, W}
-use Rattle.meaning.specs.Letters.{general, reported, haplotypes, isFlip}
+use Rattle.meaning.specs.Charge.{Letter}
 use Rattle.meaning.specs.Answer.{divisionOf}
-use Rattle.tally.specs.declared.Letters.{Letters}
 
 -- 2^18, above the weight of any 1,024 cells
 abbrev pub unit : ℕ
@@ -42,10 +40,3 @@ pub record Tallied (M : Matrix) (sides tally : List ℕ) : Type 0 where
 abbrev pub ReadAdded : Read → Side → List ℕ → List ℕ → Type 0
 ReadAdded x side old new = (j : ℕ) (s : Side) (l : Letter)
     → getD new (place j s l) 0 ≡ getD old (place j s l) 0 + cond (Bool·beq side s) (tallyOf l (at x j)) 0
-
--- the letters that are reported of column j, and the flips against its letters, for a division
-pub record Lettered (M : Matrix) (d : Division) (j : ℕ) (r : Letters) : Type 0 where
-  pub first-is : r .first ≡ reported general (W M d j) false
-  pub second-is : r .second ≡ reported general (W M d j) true
-  pub flips-are : r .flips ≡ sumTo (count M) (λ q. bit (isFlip (haplotypes general M d (d q) j) (at (read M q) j)))
-  pub flips-few : r .flips ≤ 1024

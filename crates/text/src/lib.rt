@@ -14,13 +14,13 @@ fn put_answer(text: &mut [u8], answer: &[u8]) -> usize
     requires { ⌜ 4096 ≤ length (now text) ⌝ }
     ensures { λ r. ⌜ Put (now (text .entry)) 0 (answerText (now (answer .entry))) (now (text .exit)) r ⌝ }
 {
-    let n = block::word_at(answer, 13);
-    let m = block::word_at(answer, 15);
+    let n = layout::word_at(answer, 13);
+    let m = layout::word_at(answer, 15);
     let first = 17 + n;
     let second = first + m;
     let end = second + m;
-    let a = lines::put_number_line(text, 0, b"cost ", block::long_at(answer, 5) as u32);
-    let b = lines::put_number_line(text, a, b"flips ", block::long_at(answer, 9) as u32);
+    let a = lines::put_number_line(text, 0, b"cost ", layout::long_at(answer, 5) as u32);
+    let b = lines::put_number_line(text, a, b"flips ", layout::long_at(answer, 9) as u32);
     let c = lines::put_sides_line(text, b, &answer[17..first]);
     lines::put_letters(text, c, &answer[first..second], &answer[second..end])
 }

@@ -1,12 +1,10 @@
--- The block's checks before the solver and the judge, and how much room a column of so many reads takes.
-use Prim.Native.Nat.{ℕ, _-_, _≤_, _<_, min}
+-- The block's checks before the solver and the judge.
+use Prim.Native.Nat.{ℕ, _-_, _<_}
 use mathlib.Core.Path.{_≡_, sym, ap, _∙_}
 use mathlib.Core.List.{List}
 use native.Mathlib.Omega.{arith}
 use lib.ListN.{length, take, drop}
-use lib.Pow.{pow-mono}
 use Rattle.meaning.specs.Block.{Matrix}
-use Rattle.meaning.specs.Active.{used}
 use Rattle.meaning.specs.Letters.{general}
 use Rattle.meaning.specs.Refusals.{Numbers, blockRefusal}
 use Rattle.meaning.specs.Call.{refuses, callOn, call}
@@ -53,9 +51,3 @@ module _ (b : List ℕ) (s : Shape) (p : Passes b s) where
       ap (λ (r : List ℕ). judgingOn (matrixIn s r) a work) (part-is b)
       ∙ ap (λ (M : Matrix). judgingOn M a work) (p .matrix-is)
       ∙ sym (judging-on 1 b a work (p .formed))
-
-pub few-reads-room : (n : ℕ) → n ≤ 7 → used (min n 12) ≤ 128
-few-reads-room n l = pow-mono {j = 7} (omega arith)
-
-pub any-reads-room : (n : ℕ) → used (min n 12) ≤ 4096
-any-reads-room n = pow-mono {j = 12} (omega arith)

@@ -1,12 +1,9 @@
 // The public calls. None asks anything of its caller: every block of bytes, with rooms of every size, gets an answer or a refusal.
 ghost use mathlib.Core.Path.{_≡_};
-ghost use Prim.Native.Nat.{_≤_};
-ghost use Rattle.meaning.specs.Letters.{general};
-ghost use Rattle.meaning.specs.Call.{callOn, call};
-ghost use Rattle.meaning.specs.Judge.{judgingOn, judging};
-ghost use Rattle.layout.specs.Reads.{matrixIn, Lawful};
-ghost use Rattle.solve.specs.Outcomes.{outcomeNumber, outcomeSecond, resultOf};
-ghost use Rattle.verdict.specs.Judgements.{judgementNumber, judgementSecond, judgedOf};
+ghost use Rattle.meaning.specs.Call.{call};
+ghost use Rattle.meaning.specs.Judge.{judging};
+ghost use Rattle.solve.specs.Outcomes.{outcomeNumber, outcomeSecond};
+ghost use Rattle.verdict.specs.Judgements.{judgementNumber, judgementSecond};
 
 // The number that a call returns, and its second number.
 pub struct Numbers {
@@ -38,60 +35,6 @@ fn given(o: solve::Outcome) -> Numbers
     }
 }
 
-// Room to work in for at most 32 columns and 7 reads: setting up more would take longer than solving them.
-fn small(shape: layout::Shape, reads: &[u8], work: &mut [u32], out: &mut [u8]) -> solve::Outcome
-    requires { ⌜ Lawful shape (now reads) × (shape .m ≤ 32) × (shape .n ≤ 7) ⌝ }
-    ensures { λ r. ⌜ resultOf r (now (work .exit)) (now (out .exit))
-        ≡ callOn general (matrixIn shape (now (reads .entry))) (now (work .entry)) (now (out .entry)) ⌝ }
-{
-    let mut places = [0u32; 21];
-    let mut lists = [0u16; 416];
-    let mut scratch = [0u32; 128];
-    solve::solve(
-        shape,
-        reads,
-        work,
-        out,
-        &mut places,
-        &mut lists,
-        &mut scratch,
-    )
-}
-
-// Room to work in for every block.
-fn large(shape: layout::Shape, reads: &[u8], work: &mut [u32], out: &mut [u8]) -> solve::Outcome
-    requires { ⌜ Lawful shape (now reads) ⌝ }
-    ensures { λ r. ⌜ resultOf r (now (work .exit)) (now (out .exit))
-        ≡ callOn general (matrixIn shape (now (reads .entry))) (now (work .entry)) (now (out .entry)) ⌝ }
-{
-    let mut places = [0u32; 3072];
-    let mut lists = [0u16; 13312];
-    let mut scratch = [0u32; 4096];
-    solve::solve(
-        shape,
-        reads,
-        work,
-        out,
-        &mut places,
-        &mut lists,
-        &mut scratch,
-    )
-}
-
-// The solver with as much room as the reads need.
-fn solved(shape: layout::Shape, reads: &[u8], work: &mut [u32], out: &mut [u8]) -> solve::Outcome
-    requires { ⌜ Lawful shape (now reads) ⌝ }
-    ensures { λ r. ⌜ resultOf r (now (work .exit)) (now (out .exit))
-        ≡ callOn general (matrixIn shape (now (reads .entry))) (now (work .entry)) (now (out .entry)) ⌝ }
-{
-    if shape.m <= 32 {
-        if shape.n <= 7 {
-            return small(shape, reads, work, out);
-        }
-    }
-    large(shape, reads, work, out)
-}
-
 // Phases a fragment block: the least cost, the table in the work room and the answer block in the output, or a refusal that leaves
 // both as they were.
 pub fn phase(block: &[u8], work: &mut [u32], out: &mut [u8]) -> Numbers
@@ -107,7 +50,7 @@ pub fn phase(block: &[u8], work: &mut [u32], out: &mut [u8]) -> Numbers
             second: second,
         },
         block::Verdict::Passed(shape) => {
-            let o = solved(shape, &block[9..], work, out);
+            let o = rooms::solved(shape, &block[9..], work, out);
             given(o)
         }
     }
@@ -159,33 +102,6 @@ fn judged(j: verdict::Judgement) -> Numbers
     }
 }
 
-// Room to work in for judging an answer to any block.
-fn judgement(
-    shape: layout::Shape,
-    reads: &[u8],
-    answer: &[u8],
-    work: &mut [u32],
-) -> verdict::Judgement
-    requires { ⌜ Lawful shape (now reads) ⌝ }
-    ensures { λ r. ⌜ judgedOf r (now (work .exit))
-        ≡ judgingOn (matrixIn shape (now (reads .entry))) (now (answer .entry)) (now (work .entry)) ⌝ }
-{
-    let mut places = [0u32; 3072];
-    let mut lists = [0u16; 13312];
-    let mut scratch = [0u32; 4096];
-    let mut sides = [0u8; 1024];
-    judging::judge(
-        shape,
-        reads,
-        answer,
-        work,
-        &mut places,
-        &mut lists,
-        &mut scratch,
-        &mut sides,
-    )
-}
-
 // Judges a builder's answer to a fragment block: a verdict, 50 to 57, with the table in the work room, or a refusal of the block that
 // leaves it as it was.
 pub fn judge(block: &[u8], answer: &[u8], work: &mut [u32]) -> Numbers
@@ -197,7 +113,7 @@ pub fn judge(block: &[u8], answer: &[u8], work: &mut [u32]) -> Numbers
     match v {
         block::Verdict::Refused { number, second } => both(number, second),
         block::Verdict::Passed(shape) => {
-            let j = judgement(shape, &block[9..], answer, work);
+            let j = rooms::judgement(shape, &block[9..], answer, work);
             judged(j)
         }
     }

@@ -8,7 +8,7 @@ use Rattle.layout.specs.declared.Shape.{Shape}
 use Rattle.layout.specs.Reads.{matrixIn}
 use Rattle.layout.proofs.Laws.{lawful-placed}
 use Rattle.sides.specs.Ways.{tableLeast, tableDivision}
-use Rattle.solve.proofs.Answered.{cost-is, sides-are}
+use Rattle.written.proofs.Answered.{cost-is, sides-are}
 use Rattle.verdict.specs.Stages.{Filled}
 
 module _ (s : Shape) (reads places lists : List ℕ) (t : ℕ) (work : List ℕ) (h : Filled s reads places lists t work) where

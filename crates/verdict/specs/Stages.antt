@@ -10,7 +10,7 @@ use Rattle.meaning.specs.Judge.{malformed, otherCounts, unknownMark, falseDash,
 use Rattle.layout.specs.declared.Shape.{Shape}
 use Rattle.layout.specs.Reads.{matrixIn}
 use Rattle.layout.specs.Ready.{Ready}
-use Rattle.solve.specs.Output.{RightColumns}
+use Rattle.written.specs.Output.{RightColumns}
 
 -- reads that are ready, their T, and their table in the work room
 pub record Filled (s : Shape) (reads places lists : List ℕ) (t : ℕ) (work : List ℕ) : Type 0 where

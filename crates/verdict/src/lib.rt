@@ -73,7 +73,7 @@ fn weighed(
         return Judgement::WrongCost;
     }
     let least = sides::least_last(shape, reads, places, lists, t, work);
-    if plain::place(least) < block::long_at(answer, 5) {
+    if plain::place(least) < layout::long_at(answer, 5) {
         return Judgement::NotLeast(least);
     }
     if other_answer(shape, reads, places, lists, t, work, tally, answer, sides) {

@@ -8,7 +8,7 @@ use lib.ListN.{length}
 use Rattle.meaning.specs.Block.{afterReads, readsPart}
 use Rattle.meaning.specs.Refusals.{Numbers, passed, readsFault}
 use Rattle.layout.specs.declared.Shape.{Shape}
-use Rattle.block.specs.Answers.{searchNumbers}
+use Rattle.reads.specs.Search.{searchNumbers}
 use Rattle.block.proofs.BlockChecks.{part-is, search-stop, some-left, none-left, block-passes}
 use Rattle.block.proofs.check_reads.Statement.{statement}
 use Rattle.block.proofs.check_reads.Tie as tie

@@ -2,7 +2,7 @@
 use borrow.Author.Needs.{needs}
 use native.Mathlib.Omega.{arith}
 use mathlib.Core.Path.{sym, ap, _∙_}
-use Rattle.block.specs.Answers.{headerNumber}
+use Rattle.header.specs.Header.{headerNumber}
 use Rattle.block.proofs.BlockChecks.{header-stop}
 use Rattle.block.proofs.checked.Statement.{statement}
 use Rattle.block.proofs.checked.Tie as tie

@@ -14,7 +14,7 @@ use Rattle.ready.specs.Piling.{Piling}
 use Rattle.ready.proofs.Piles.{ends-inside, piling-lists, crowded-lt, crowded-found, thin-found}
 use Rattle.ready.proofs.piled.Statement.{statement}
 use Rattle.ready.proofs.piled.Tie as tie
-use Rattle.block.proofs.places.Reads as places-reads
+use Rattle.reads.proofs.places.Reads as places-reads
 use Rattle.pile.proofs.heights.Reads as heights-reads
 use Rattle.pile.proofs.tallest.Reads as tallest-reads
 use Rattle.plain.proofs.entries.Reads as entries-reads

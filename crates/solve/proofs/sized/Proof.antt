@@ -11,7 +11,7 @@ use Rattle.solve.proofs.Calls.{work-call, output-call, cost-call}
 use Rattle.solve.proofs.sized.Statement.{statement}
 use Rattle.solve.proofs.sized.Tie as tie
 use Rattle.ready.proofs.tabled.Reads as tabled-reads
-use Rattle.solve.proofs.write_answer.Reads as write-answer-reads
+use Rattle.written.proofs.write_answer.Reads as write-answer-reads
 
 -- the table's size
 fits : (c : tie.Start) → c .args .shape .m * c .args .t ≤ 2097152

@@ -13,7 +13,7 @@ use Rattle.velejume.proofs.judge.Tie as tie
 use Rattle.block.proofs.checked.Reads as checked-reads
 use Rattle.velejume.proofs.both.Reads as both-reads
 use Rattle.velejume.proofs.judged.Reads as judged-reads
-use Rattle.velejume.proofs.judgement.Reads as judgement-reads
+use Rattle.rooms.proofs.judgement.Reads as judgement-reads
 
 -- a block that passes
 passes : (c : tie.After-v2) → let s = c .before .before .before .before .before .before in Passes (s .args .block .now) (c .v2 .given .0 .0)

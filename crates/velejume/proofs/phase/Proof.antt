@@ -12,7 +12,7 @@ use Rattle.velejume.proofs.phase.Statement.{statement}
 use Rattle.velejume.proofs.phase.Tie as tie
 use Rattle.block.proofs.checked.Reads as checked-reads
 use Rattle.velejume.proofs.given.Reads as given-reads
-use Rattle.velejume.proofs.solved.Reads as solved-reads
+use Rattle.rooms.proofs.solved.Reads as solved-reads
 
 -- a block that passes
 passes : (c : tie.After-v2) → let s = c .before .before .before .before .before .before in Passes (s .args .block .now) (c .v2 .given .0 .0)

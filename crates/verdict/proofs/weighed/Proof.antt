@@ -11,7 +11,7 @@ use Rattle.verdict.proofs.Tabled.{least-cost}
 use Rattle.verdict.proofs.Verdicts.{gives-53, gives-54, gives-55, is-least, gives-56, gives-57}
 use Rattle.verdict.proofs.weighed.Statement.{statement}
 use Rattle.verdict.proofs.weighed.Tie as tie
-use Rattle.block.proofs.long_at.Reads as long-at-reads
+use Rattle.layout.proofs.long_at.Reads as long-at-reads
 use Rattle.plain.proofs.place.Reads as place-reads
 use Rattle.sides.proofs.least_last.Reads as least-last-reads
 use Rattle.stated.proofs.false_dash.Reads as false-dash-reads

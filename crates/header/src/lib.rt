@@ -1,0 +1,45 @@
+// A fragment block's header: the checks 1 to 4, and the shape of the reads behind it.
+ghost use mathlib.Core.Path.{_≡_};
+ghost use Rattle.meaning.specs.Refusals.{headerRefusal};
+ghost use Rattle.header.specs.Header.{headerNumber, headerSizes};
+
+// What a header says: which of the checks 1 to 4 applies, or the shape of its reads.
+pub enum Header {
+    Short,
+    Version,
+    Size,
+    Counts,
+    Sizes(layout::Shape),
+}
+
+// The checks 1 to 4.
+pub fn check_header(block: &[u8]) -> Header
+    ensures { λ r. ⌜ headerNumber r ≡ headerRefusal 1 (now (block .entry)) ⌝ }
+    ensures { λ r. ⌜ headerSizes (now (block .entry)) r ⌝ }
+{
+    if block.len() < 9 {
+        return Header::Short;
+    }
+    if block[0] != 1 {
+        return Header::Version;
+    }
+    if layout::long_at(block, 1) != block.len() - 5 {
+        return Header::Size;
+    }
+    let m = layout::word_at(block, 5);
+    let n = layout::word_at(block, 7);
+    if m == 0 {
+        return Header::Counts;
+    }
+    if m > 1024 {
+        return Header::Counts;
+    }
+    if n > 1024 {
+        return Header::Counts;
+    }
+    Header::Sizes(layout::Shape {
+        size: 2,
+        m: m,
+        n: n,
+    })
+}

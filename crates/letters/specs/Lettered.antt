@@ -1,0 +1,18 @@
+-- The letters and flips of a column.
+use Prim.Native.Nat.{ℕ, _≤_}
+use mathlib.Core.Bool.{true, false}
+use mathlib.Core.Path.{_≡_}
+use Rattle.meaning.specs.Numbers.{bit, sumTo}
+use Rattle.meaning.specs.Block.{Matrix}
+use Rattle.meaning.specs.Active.{count, read, at}
+use Rattle.meaning.specs.Division.{Division}
+use Rattle.meaning.specs.Charge.{W}
+use Rattle.meaning.specs.Letters.{general, reported, haplotypes, isFlip}
+use Rattle.letters.specs.declared.Letters.{Letters}
+
+-- the letters that are reported of column j, and the flips against its letters, for a division
+pub record Lettered (M : Matrix) (d : Division) (j : ℕ) (r : Letters) : Type 0 where
+  pub first-is : r .first ≡ reported general (W M d j) false
+  pub second-is : r .second ≡ reported general (W M d j) true
+  pub flips-are : r .flips ≡ sumTo (count M) (λ q. bit (isFlip (haplotypes general M d (d q) j) (at (read M q) j)))
+  pub flips-few : r .flips ≤ 1024

@@ -1,0 +1,4 @@
+pub mod CellChecks
+pub mod HeadChecks
+pub mod Walk
+pub mod PlacesNoted

@@ -1,4 +1,5 @@
-# Turns the vectors into equations of antt. A case is four lines and a blank one: name, block in hex, the output before a tie was no letter, the output.
+# Turns the vectors into equations of antt. In phase.txt a case is four lines and a blank one: name, block in hex, the output before a tie was no letter, the
+# output. In solve.txt a case is a line: what is lent, both numbers, what both rooms hold afterwards.
 function value(s,   i, x) {
   x = 0
   for (i = 1; i <= length(s); i++) x = x * 16 + index("0123456789abcdef", tolower(substr(s, i, 1))) - 1
@@ -15,18 +16,38 @@ function letters(s,   i, l) {
   for (i = 1; i <= length(s); i++) l = l (substr(s, i, 1) == "-" ? 2 : substr(s, i, 1)) " ∷ "
   return "(" l "[])"
 }
+function numbers(s) {
+  if (s == ".") return "[]"
+  gsub(",", " ∷ ", s)
+  return "(" s " ∷ [])"
+}
+# whether all divisions of so many reads can be gone through
+function few(n, m) { return 2 ^ n * (n + 1) * m <= 3000 }
 BEGIN {
   print "use Prim.Native.Nat.{ℕ}"
   print "use mathlib.Core.Path.{_≡_, refl}"
   print "use mathlib.Core.List.{List, [], _∷_}"
-  print "use Rattle.meaning.specs.Block.{matrixOf}"
+  print "use Rattle.meaning.specs.Block.{latest, matrixOf}"
   print "use Rattle.meaning.specs.Charge.{charge, leastCost}"
   print "use Rattle.meaning.specs.Letters.{general}"
   print "use Rattle.meaning.specs.Answer.{answer, answerBytes}"
   print "use Rattle.meaning.specs.Refusals.{Numbers, passed, refusal}"
+  print "use Rattle.meaning.specs.Call.{call}"
+  print "use lib.ListN.{replicate}"
   print "use Rattle.meaning.specs.Opened.{opened}"
 }
 /^#/ { next }
+/^mode=general/ {
+  split($0, half, " -> ")
+  split(half[1], given, /[ =]/)
+  split(half[2], got, /[ =]/)
+  block = given[4]
+  if (length(block) > 1200 || (got[1] == 0 && !few(value(substr(block, 15, 4)), value(substr(block, 11, 4))))) next
+  printf "\nvector-%d : call %s (replicate %s 2779096485) (replicate %s 165)\n", ++made, bytes(block == "." ? "" : block), given[6], given[8]
+  printf "    ≡ record { number = %s; second = %s; work = %s; out = %s }\n", got[1], got[2], numbers(got[4]), bytes(got[6] == "." ? "" : got[6])
+  printf "unfolding opened\nvector-%d = refl\n", made
+  next
+}
 !begun && /^$/ { begun = 1; next }
 begun {
   line[++k] = $0
@@ -38,11 +59,11 @@ begun {
   at = bytes(block)
   if (word[1] == "refused") {
     if (length(block) > 1200) next
-    printf "\nvector-%d : refusal 1 %s 16384 70000 ≡ record { number = %s; second = %s }\n", ++made, at, word[2], word[4]
+    printf "\nvector-%d : refusal latest %s 16384 70000 ≡ record { number = %s; second = %s }\n", ++made, at, word[2], word[4]
     printf "unfolding opened\nvector-%d = refl\n", made
   } else {
-    if (2 ^ n * (n + 1) * m > 3000) next
-    printf "\nvector-%d : (refusal 1 %s 16384 70000 ≡ passed) × (leastCost charge (matrixOf %s) ≡ %s) × ", ++made, at, at, word[2]
+    if (!few(n, m)) next
+    printf "\nvector-%d : (refusal latest %s 16384 70000 ≡ passed) × (leastCost charge (matrixOf %s) ≡ %s) × ", ++made, at, at, word[2]
     printf "(answer general (matrixOf %s) ≡ answerBytes %s %s %s %s %s)\n", at, word[2], word[4], letters(word[6]), letters(word[8]), letters(word[10])
     printf "unfolding opened\nvector-%d = (refl, refl, refl)\n", made
   }

@@ -8,7 +8,7 @@ use native.Mathlib.Omega.{arith}
 use lib.ListN.{length, take, drop, length-drop}
 use lib.Seq.{take-all}
 use borrow.Author.Tests.{lt-ltb, le-ltb}
-use Rattle.meaning.specs.Block.{columnsField, readsField, cellSize, afterReads, readsPart, matrixOf}
+use Rattle.meaning.specs.Block.{latest, columnsField, readsField, cellSize, afterReads, readsPart, matrixOf}
 use Rattle.meaning.specs.Refusals.{Numbers, passed, refuse, orElse, headerRefusal, readsFault, leftOver, blockRefusal}
 use Rattle.meaning.proofs.Formed.{reads-sound}
 use Rattle.meaning.proofs.Refusals.{or-pass, or-stop}
@@ -21,28 +21,28 @@ module _ (b : List ℕ) where
   pub part-is : take (length b - 9) (drop 9 b) ≡ readsPart b
   part-is = take-all (length b - 9) (drop 9 b) (omega (arith, length-drop 9 b))
 
-  pub header-stop : (x : Numbers) → x ≡ headerRefusal 1 b → x .number ≢ 0 → x ≡ blockRefusal 1 b
+  pub header-stop : (x : Numbers) → x ≡ headerRefusal latest b → x .number ≢ 0 → x ≡ blockRefusal latest b
   unfolding blockRefusal
-  header-stop x e z = e ∙ sym (or-stop (headerRefusal 1 b) _ (λ q. z (ap (λ (y : Numbers). y .number) e ∙ q)))
+  header-stop x e z = e ∙ sym (or-stop (headerRefusal latest b) _ (λ q. z (ap (λ (y : Numbers). y .number) e ∙ q)))
 
-  module _ (s : Shape) (head : headerRefusal 1 b ≡ passed) (sized : Sized b s) where
+  module _ (s : Shape) (head : headerRefusal latest b ≡ passed) (sized : Sized b s) where
     abbrev search : Numbers
     search = readsFault (s .size) (s .m) (s .n) 0 (readsPart b)
 
     search-is : search ≡ readsFault (cellSize b) (columnsField b) (readsField b) 0 (readsPart b)
-    search-is = simp (sized .cell, sized .columns, sized .reads)
+    search-is = simp (sized .size-is, sized .columns, sized .reads)
 
-    behind-header : orElse search (refuse (leftOver b) 8 0) ≡ blockRefusal 1 b
+    behind-header : orElse search (refuse (leftOver b) 8 0) ≡ blockRefusal latest b
     unfolding blockRefusal
     behind-header =
         ap (λ (x : Numbers). orElse x (refuse (leftOver b) 8 0)) search-is
-        ∙ sym (or-pass (headerRefusal 1 b) _ (ap (λ (y : Numbers). y .number) head))
+        ∙ sym (or-pass (headerRefusal latest b) _ (ap (λ (y : Numbers). y .number) head))
 
-    pub search-stop : (x : Numbers) → x ≡ search → x .number ≢ 0 → x ≡ blockRefusal 1 b
+    pub search-stop : (x : Numbers) → x ≡ search → x .number ≢ 0 → x ≡ blockRefusal latest b
     search-stop x e z = e ∙ sym (or-stop search _ (λ q. z (ap (λ (y : Numbers). y .number) e ∙ q))) ∙ behind-header
 
     module _ (found : passed ≡ search) (at : ℕ) (end : at + length (afterReads (s .n) (readsPart b)) ≡ length (readsPart b)) where
-      behind-search : (t : Bool) → leftOver b ≡ t → refuse t 8 0 ≡ blockRefusal 1 b
+      behind-search : (t : Bool) → leftOver b ≡ t → refuse t 8 0 ≡ blockRefusal latest b
       behind-search t e =
           ap (λ (x : Bool). refuse x 8 0) (sym e)
           ∙ sym (or-pass search _ (ap (λ (y : Numbers). y .number) (sym found)))
@@ -51,11 +51,11 @@ module _ (b : List ℕ) where
       rest-is : length (afterReads (readsField b) (readsPart b)) ≡ length (afterReads (s .n) (readsPart b))
       rest-is = ap (λ (k : ℕ). length (afterReads k (readsPart b))) (sym (sized .reads))
 
-      pub some-left : at < length (readsPart b) → record { number = 8; second = 0 } ≡ blockRefusal 1 b
+      pub some-left : at < length (readsPart b) → record { number = 8; second = 0 } ≡ blockRefusal latest b
       unfolding leftOver refuse
       some-left h = behind-search true (lt-ltb 0 (length (afterReads (readsField b) (readsPart b))) (omega (arith, rest-is)))
 
-      pub none-left : length (readsPart b) ≤ at → passed ≡ blockRefusal 1 b
+      pub none-left : length (readsPart b) ≤ at → passed ≡ blockRefusal latest b
       unfolding leftOver refuse
       none-left h = behind-search false (le-ltb 0 (length (afterReads (readsField b) (readsPart b))) (omega (arith, rest-is)))
 
@@ -63,9 +63,9 @@ module _ (b : List ℕ) where
       unfolding matrixOf
       block-passes h =
           record {
-            matrix-is = simp (sized .cell, sized .columns, sized .reads);
+            matrix-is = simp (sized .size-is, sized .columns, sized .reads);
             lawful = record {
-              two = sized .two;
+              cell = sized .cell;
               some-column = sized .some-column;
               few-columns = sized .few-columns;
               few-reads = sized .few-reads;

@@ -3,7 +3,7 @@ use Prim.Native.Nat.{ℕ, _≤_, _<_}
 use mathlib.Core.Path.{_≡_}
 use mathlib.Core.List.{List}
 use lib.ListN.{length}
-use Rattle.meaning.specs.Block.{readsPart, matrixOf}
+use Rattle.meaning.specs.Block.{latest, readsPart, matrixOf}
 use Rattle.meaning.specs.Refusals.{Numbers, passed, blockRefusal}
 use Rattle.layout.specs.declared.Shape.{Shape}
 use Rattle.layout.specs.Reads.{matrixIn, Lawful}
@@ -19,7 +19,7 @@ pub record Passes (b : List ℕ) (s : Shape) : Type 0 where
   pub matrix-is : matrixIn s (readsPart b) ≡ matrixOf b
   pub lawful : Lawful s (readsPart b)
   pub nine : 9 ≤ length b
-  pub formed : blockRefusal 1 b .number ≡ 0
+  pub formed : blockRefusal latest b .number ≡ 0
 
 -- a refusal has a number
 abbrev pub checkedSizes : List ℕ → Verdict → Type 0

@@ -1,5 +1,6 @@
 // A fragment block: the checks 1 to 8, from its header to the last of its reads.
 ghost use mathlib.Core.Path.{_≡_};
+ghost use Rattle.meaning.specs.Block.{latest};
 ghost use Rattle.meaning.specs.Refusals.{passed, headerRefusal, blockRefusal};
 ghost use Rattle.header.specs.Header.{Sized};
 ghost use Rattle.block.specs.Answers.{checkedNumbers, checkedSizes};
@@ -12,8 +13,8 @@ pub enum Verdict {
 
 // The checks 5 to 8, of a block whose header passes.
 fn check_reads(block: &[u8], shape: layout::Shape) -> Verdict
-    requires { ⌜ (headerRefusal 1 (now block) ≡ passed) × Sized (now block) shape ⌝ }
-    ensures { λ r. ⌜ checkedNumbers r ≡ blockRefusal 1 (now (block .entry)) ⌝ }
+    requires { ⌜ (headerRefusal latest (now block) ≡ passed) × Sized (now block) shape ⌝ }
+    ensures { λ r. ⌜ checkedNumbers r ≡ blockRefusal latest (now (block .entry)) ⌝ }
     ensures { λ r. ⌜ checkedSizes (now (block .entry)) r ⌝ }
 {
     let reads = &block[9..];
@@ -44,7 +45,7 @@ fn check_reads(block: &[u8], shape: layout::Shape) -> Verdict
 
 // The checks 1 to 8.
 pub fn checked(block: &[u8]) -> Verdict
-    ensures { λ r. ⌜ checkedNumbers r ≡ blockRefusal 1 (now (block .entry)) ⌝ }
+    ensures { λ r. ⌜ checkedNumbers r ≡ blockRefusal latest (now (block .entry)) ⌝ }
     ensures { λ r. ⌜ checkedSizes (now (block .entry)) r ⌝ }
 {
     match header::check_header(block) {

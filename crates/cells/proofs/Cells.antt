@@ -12,6 +12,7 @@ use Rattle.meaning.proofs.Closing.{active-cells}
 use Rattle.layout.specs.declared.Shape.{Shape}
 use Rattle.layout.specs.Reads.{matrixIn}
 use Rattle.layout.specs.Places.{startAt, firstAt, endAt}
+use Rattle.layout.proofs.Laws.{cell-fits}
 use Rattle.layout.proofs.Cuts.{part, cut-noted, cut-cell}
 use Rattle.cells.specs.Laid.{Laid}
 
@@ -20,19 +21,15 @@ pub record Here (s : Shape) (reads : List ℕ) (r j x from to : ℕ) : Type 0 wh
   pub begun : from ≤ j
   pub goes-on : j < to
   pub inside : x + s .size * (to - from) ≤ length reads
-  pub within : s .size * (j - from) + 1 < length (part (s .size) reads x from to)
+  pub within : s .size * (j - from) + s .size ≤ length (part (s .size) reads x from to)
   pub cell-good : badCell (cellAt (s .size) (part (s .size) reads x from to) (j - from)) ≡ false
   pub cell-at : cellAt (s .size) (part (s .size) reads x from to) (j - from) ≡ at (read (matrixIn s reads) r) j
 
 -- cell k of that part
 pub taken-cell : {s : Shape} {reads : List ℕ} {r j x from to : ℕ} → Here s reads r j x from to → (k : ℕ) → k ≡ j - from
-    → (s .size * k + 1 < length (part (s .size) reads x from to)) × (badCell (cellAt (s .size) (part (s .size) reads x from to) k) ≡ false)
+    → (s .size * k + s .size ≤ length (part (s .size) reads x from to)) × (badCell (cellAt (s .size) (part (s .size) reads x from to) k) ≡ false)
     × (cellAt (s .size) (part (s .size) reads x from to) k ≡ at (read (matrixIn s reads) r) j)
 taken-cell h k e = rw e (h .within, h .cell-good, h .cell-at)
-
--- a cell of two bytes before the last ends inside
-fits : (size i n : ℕ) → size ≡ 2 → i < n → size * i + 1 < size * n
-fits size i n two l = omega (arith, ap (λ (k : ℕ). k * i) two, ap (λ (k : ℕ). k * n) two)
 
 module _ {s : Shape} {reads places list : List ℕ} {p j : ℕ} (laid : Laid s reads places list p j) (i : ℕ) (l : i < p) where
   -- the i-th read of the list has its three numbers
@@ -52,7 +49,7 @@ module _ {s : Shape} {reads places list : List ℕ} {p j : ℕ} (laid : Laid s r
         begun = from;
         goes-on = to;
         inside = c .inside;
-        within = subst (λ (n : ℕ). s .size * (j - firstAt places r) + 1 < n) (sym (c .sized)) (fits _ _ _ (laid .lawful .two) below);
+        within = subst (λ (n : ℕ). s .size * (j - firstAt places r) + s .size ≤ n) (sym (c .sized)) (cell-fits _ _ _ below);
         cell-good = c .cells-good (j - firstAt places r) below;
         cell-at = cut-cell c j from to;
       }

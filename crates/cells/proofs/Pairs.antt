@@ -14,7 +14,6 @@ use Rattle.meaning.specs.Numbers.{bigEndian}
 use Rattle.meaning.specs.Block.{Cell, cellAt}
 use Rattle.meaning.specs.Charge.{Letter, against}
 use Rattle.meaning.specs.Refusals.{badCell}
-use Rattle.layout.proofs.Fields.{byte-is}
 use Rattle.layout.proofs.Laws.{good}
 use Rattle.sums.specs.Sums.{pairAt, pairOf, LightPairs}
 
@@ -23,9 +22,9 @@ pub times-digit : (x l : ℕ) → x * (l % 2) ≤ x
 times-digit x l = let h : l % 2 ≤ 1 = omega arith in omega (arith, mul-le-mul-left x h)
 
 -- neither part of a pair is above its weight
-pub pair-light : (x a : ℕ) → x ≤ 255 → (l : Letter) → pairAt (x * (a % 2) ∷ (x - x * (a % 2)) ∷ []) l ≤ 255
-pair-light x a h false = omega (arith, times-digit x a)
-pair-light x a h true = omega arith
+pub pair-light : (lim x a : ℕ) → x ≤ lim → (l : Letter) → pairAt (x * (a % 2) ∷ (x - x * (a % 2)) ∷ []) l ≤ lim
+pair-light lim x a h false = omega (arith, times-digit x a)
+pair-light lim x a h true = omega arith
 
 pair-good : (c : Cell) → badCell c ≡ false → c .weight * (c .letter % 2) ∷ (c .weight - c .weight * (c .letter % 2)) ∷ [] ≡ pairOf c
 unfolding against
@@ -37,16 +36,12 @@ pair-good c h = let g = good c h in go (c .letter) (c .weight) (g .letter-known)
     go (suc (suc zero)) b l e = let z : b ≡ 0 = e refl in ap₂ (λ (x y : ℕ). x ∷ y ∷ []) (omega arith) (omega arith)
     go (suc (suc (suc a))) b l e = absurd (omega arith)
 
--- the pair of cell i, by its two bytes
-pub pair-is : (cells : List ℕ) (size i a b : ℕ) → size ≡ 2 → badCell (cellAt size cells i) ≡ false
-    → a ≡ getD cells (size * i) 0 → b ≡ getD cells (size * i + 1) 0
+-- the pair of cell i, by its letter and its weight
+pub pair-is : (cells : List ℕ) (size i a b : ℕ) → badCell (cellAt size cells i) ≡ false
+    → a ≡ getD cells (size * i) 0 → b ≡ bigEndian (size - 1) cells (size * i + 1)
     → b * (a % 2) ∷ (b - b * (a % 2)) ∷ [] ≡ pairOf (cellAt size cells i)
 unfolding cellAt
-pair-is cells size i a b two h ea eb =
-    ap₂ (λ (x y : ℕ). y * (x % 2) ∷ (y - y * (x % 2)) ∷ []) ea (eb ∙ sym weight) ∙ pair-good (cellAt size cells i) h
-  where
-    weight : bigEndian (size - 1) cells (size * i + 1) ≡ getD cells (size * i + 1) 0
-    weight = ap (λ (n : ℕ). bigEndian (n - 1) cells (size * i + 1)) two ∙ byte-is cells (size * i + 1)
+pair-is cells size i a b h ea eb = ap₂ (λ (x y : ℕ). y * (x % 2) ∷ (y - y * (x % 2)) ∷ []) ea eb ∙ pair-good (cellAt size cells i) h
 
 -- the first n pairs are those that f gives, and none is above the limit
 pub record PairsTo (w : List (List ℕ)) (n : ℕ) (f : ℕ → List ℕ) (lim : ℕ) : Type 0 where

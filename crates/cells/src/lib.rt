@@ -8,7 +8,7 @@ ghost use Rattle.meaning.specs.Block.{cellAt};
 ghost use Rattle.meaning.specs.Active.{read, at};
 ghost use Rattle.meaning.specs.Charge.{Letter};
 ghost use Rattle.meaning.specs.Refusals.{badCell};
-ghost use Rattle.layout.specs.Reads.{matrixIn};
+ghost use Rattle.layout.specs.Reads.{CellSize, matrixIn};
 ghost use Rattle.layout.specs.Places.{firstAt};
 ghost use Rattle.fold.specs.Turn.{startsBefore, sharedTo, turnAt};
 ghost use Rattle.sums.specs.Sums.{pairAt, pairOf, LightPairs};
@@ -22,15 +22,15 @@ fn cell_of(f: usize, j: usize) -> usize
     j - f
 }
 
-// What cell i costs where letter 0 is written, and where letter 1 is: neither above 255.
+// What cell i costs where letter 0 is written, and where letter 1 is: neither above 65,535.
 fn weights(cells: &[u8], size: usize, i: usize) -> [u32; 2]
-    requires { ⌜ (size ≡ 2) × (size * i + 1 < length (now cells)) × (badCell (cellAt size (now cells) i) ≡ false) ⌝ }
+    requires { ⌜ CellSize size × (size * i + size ≤ length (now cells)) × (badCell (cellAt size (now cells) i) ≡ false) ⌝ }
     ensures { λ r. ⌜ r ≡ pairOf (cellAt size (now (cells .entry)) i) ⌝ }
-    ensures { λ r. ⌜ ((l : Letter) → pairAt r l ≤ 255) ⌝ }
+    ensures { λ r. ⌜ ((l : Letter) → pairAt r l ≤ 65535) ⌝ }
 {
     let at = size * i;
     let letter = plain::weight(cells[at]);
-    let x = plain::weight(cells[at + 1]);
+    let x = layout::weight_at(cells, size, at);
     let y = x * (letter % 2);
     [y, x - y]
 }
@@ -52,7 +52,7 @@ pub fn prepare(
     ensures { λ r. ⌜ r ≡ sharedTo (startsBefore (firstAt (now (places .entry))) (now (list .entry)) j) p ⌝ }
     ensures { λ _. ⌜ ((i : ℕ) → i < p
         → getD (now (w .exit)) i [] ≡ pairOf (at (read (matrixIn shape (now (reads .entry))) (getD (now (list .entry)) i 0)) j)) ⌝ }
-    ensures { λ _. ⌜ LightPairs (now (w .exit)) p 255 ⌝ }
+    ensures { λ _. ⌜ LightPairs (now (w .exit)) p 65535 ⌝ }
     ensures { λ _. ⌜ ((i : ℕ) → i < p
         → getD (now (turn .exit)) i 0 ≡ turnAt (startsBefore (firstAt (now (places .entry))) (now (list .entry)) j) p i) ⌝ }
 {

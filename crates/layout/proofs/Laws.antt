@@ -1,5 +1,5 @@
 -- Where read r stands among the bytes, and what the checks 5 to 7 leave of it, in cells of any size.
-use Prim.Native.Nat.{ℕ, zero, suc, _+_, _-_, _*_, _/_, _%_, _≤_, _<_}
+use Prim.Native.Nat.{ℕ, zero, suc, _+_, _-_, _*_, _/_, _%_, _^_, _≤_, _<_}
 use borrow.Author.Tests.{ltb-false, eqb-true, not-false, eq-eqb}
 use lib.Dec.{eqb, ltb}
 use lib.ListN.{length, take, drop, length-drop}
@@ -7,19 +7,22 @@ use lib.Seq.{drop-drop}
 use mathlib.Core.Bool.{Bool, false, not, _&&_}
 use mathlib.Core.List.{List}
 use mathlib.Core.Path.{_≡_, refl, sym, ap, ap₂, _∙_, subst}
-use native.Mathlib.Nat.{div-add-mod', mul-comm}
+use native.Mathlib.Nat.{div-add-mod', mul-comm, mul-le-mul-left, le-trans, le-of-eq}
 use native.Mathlib.Numerals.{add-one}
 use native.Mathlib.Omega.{arith}
 use Rattle.meaning.specs.Numbers.{word}
 use Rattle.meaning.specs.Block.{Cell, Read, lengthField, firstField, cellCount, cellsPart, readOf, afterRead, afterReads}
 use Rattle.meaning.specs.Active.{count, read, end}
 use Rattle.meaning.specs.Refusals.{badLength, badCell}
-use Rattle.meaning.proofs.Closing.{Placed}
+use Rattle.meaning.proofs.Closing.{Placed, length-active}
+use Rattle.meaning.proofs.Bounds.{Light, Bytes, reads-light}
 use Rattle.meaning.proofs.Formed.{sound-placed, length-reads, getD-reads, end-of, sound-end}
 use Rattle.meaning.proofs.Refusals.{or-false-left, or-false-right}
 use Rattle.layout.specs.declared.Shape.{Shape}
-use Rattle.layout.specs.Reads.{matrixIn, Lawful}
+use Rattle.layout.specs.Reads.{CellSize, matrixIn, Lawful}
 use Rattle.layout.specs.Places.{readStart, cellsStart}
+use Rattle.layout.specs.Lists.{Thin}
+use Rattle.layout.specs.Ready.{Ready}
 use Rattle.layout.proofs.Fields.{length-field}
 
 -- after one read more
@@ -121,3 +124,23 @@ count-is s reads = length-reads (s .size) (s .n) reads
 -- each read ends by the last column
 pub lawful-placed : (s : Shape) (reads : List ℕ) → Lawful s reads → Placed (matrixIn s reads)
 lawful-placed s reads lawful = sound-placed (s .size) (s .m) (s .n) reads (lawful .sound)
+
+-- cell i of n ends among their bytes
+pub cell-fits : (size i n : ℕ) → i < n → size * i + size ≤ size * n
+cell-fits size i n l = let h : size * suc i ≤ size * n = mul-le-mul-left size l in omega arith
+
+-- no weight of a cell is above 65,535
+heaviest : (size : ℕ) → CellSize size → 256 ^ (size - 1) - 1 ≤ 65535
+heaviest zero h = omega arith
+heaviest (suc zero) h = omega arith
+heaviest (suc (suc zero)) h = omega arith
+heaviest (suc (suc (suc zero))) h = omega arith
+heaviest (suc (suc (suc (suc n)))) h = absurd (omega (arith, h .1))
+
+pub lawful-light : (s : Shape) (reads : List ℕ) → Lawful s reads → Bytes reads → Light (matrixIn s reads) 65535
+lawful-light s reads lawful bytes r j = le-trans (reads-light (s .size) (s .n) reads bytes r j) (heaviest (s .size) (lawful .cell))
+
+-- reads that are ready have twelve active reads at most
+pub ready-thin : (s : Shape) (reads places lists : List ℕ) → Ready s reads places lists → Thin (matrixIn s reads)
+ready-thin s reads places lists ready j l =
+    le-trans (le-of-eq (sym (length-active (matrixIn s reads) (lawful-placed s reads (ready .lawful)) j))) (ready .piled .few j l)

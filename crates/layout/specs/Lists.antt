@@ -4,7 +4,12 @@ use mathlib.Core.Path.{_≡_}
 use mathlib.Core.List.{List}
 use lib.ListN.{length, getD, take, drop}
 use Rattle.meaning.specs.Block.{Matrix}
+use Rattle.meaning.specs.Active.{activeCount}
 use Rattle.meaning.specs.Closing.{activeReads}
+
+-- no column has more than twelve active reads
+abbrev pub Thin : Matrix → Type 0
+Thin M = (j : ℕ) → j < M .columns → activeCount M j ≤ 12
 
 abbrev pub countAt : List ℕ → ℕ → ℕ
 countAt lists j = getD lists (13 * j) 0

@@ -10,9 +10,13 @@ use Rattle.layout.specs.declared.Shape.{Shape}
 abbrev pub matrixIn : Shape → List ℕ → Matrix
 matrixIn s reads = matrixFrom (s .size) (s .m) (s .n) reads
 
--- what the checks of the header and the checks 5 to 7 leave: cells of two bytes, m and n within their limits, each read sound
+-- a cell has two bytes, or three
+abbrev pub CellSize : ℕ → Type 0
+CellSize size = (2 ≤ size) × (size ≤ 3)
+
+-- what the checks of the header and the checks 5 to 7 leave: cells of such a size, m and n within their limits, each read sound
 pub record Lawful (s : Shape) (reads : List ℕ) : Type 0 where
-  pub two : s .size ≡ 2
+  pub cell : CellSize (s .size)
   pub some-column : 0 < s .m
   pub few-columns : s .m ≤ 1024
   pub few-reads : s .n ≤ 1024

@@ -8,12 +8,13 @@ use mathlib.Core.Path.{_≡_, refl, sym, ap, ap₂, _∙_}
 use native.Mathlib.Omega.{arith}
 use Rattle.meaning.specs.Numbers.{bit, sumTo}
 use Rattle.meaning.specs.Block.{Cell, Matrix}
-use Rattle.meaning.specs.Active.{count, read, at}
+use Rattle.meaning.specs.Active.{count, read, at, activeCount}
 use Rattle.meaning.specs.Division.{Side, Division}
 use Rattle.meaning.specs.Charge.{Letter, against, W}
 use Rattle.meaning.specs.Letters.{letterOf, general, reported, haplotypes, isFlip}
 use Rattle.meaning.specs.Answer.{divisionOf}
 use Rattle.meaning.proofs.Totals.{sum-ext, sum-add, sum-times, sum-bound}
+use Rattle.meaning.proofs.Bounds.{Light, sums-bound}
 use Rattle.sums.specs.Sums.{arrayOf, pairAt}
 use Rattle.tally.specs.Tally.{unit, tallyOf, talliedTo, place, Tallied}
 use Rattle.letters.specs.Lettered.{Lettered}
@@ -45,18 +46,15 @@ module _ (M : Matrix) (d : Division) (j : ℕ) (s : Side) (l : Letter) where
       ∙ sum-add (count M) _ _
       ∙ ap (λ (x : ℕ). x + W M d j s l) (sum-times (count M) unit (λ q. cond (Bool·beq (d q) s) (bit (isFlip l (at (read M q) j))) 0))
 
-  weight-small : count M ≤ 1024 → ((r : ℕ) → r < count M → at (read M r) j .weight ≤ 255) → W M d j s l < unit
-  unfolding W against
-  weight-small few light =
-      let total : W M d j s l ≤ count M * 255 =
-      sum-bound (count M) 255 {f = λ q. cond (Bool·beq (d q) s) (against l (at (read M q) j)) 0}
-      (λ q h. go (Bool·beq (d q) s) (eqb (at (read M q) j .letter) (bit (not l))) (at (read M q) j .weight) (light q h)) in
-      omega arith
+  weight-small : activeCount M j ≤ 12 → Light M 65535 → W M d j s l < unit
+  weight-small few light = go s
     where
-      go : (t e : Bool) (w : ℕ) → w ≤ 255 → cond t (cond e w 0) 0 ≤ 255
-      go true true w h = h
-      go true false w h = omega arith
-      go false e w h = omega arith
+      both : W M d j false l + W M d j true l ≤ activeCount M j * 65535
+      both = sums-bound M 65535 light d j l l
+
+      go : (s : Side) → W M d j s l < unit
+      go false = omega (arith, both)
+      go true = omega (arith, both)
 
 -- read off a matrix's tally
 module _ (M : Matrix) (sides tally : List ℕ) (of : Tallied M sides tally) (j : ℕ) (inside : j < M .columns) where
@@ -68,7 +66,7 @@ module _ (M : Matrix) (sides tally : List ℕ) (of : Tallied M sides tally) (j :
     parts = of .each j inside s (not l) ∙ tallied-parts M d j s l
 
     small : W M d j s l < unit
-    small = weight-small M d j s l (of .few-reads) (λ r h. of .light r j h)
+    small = weight-small M d j s l (of .thin j inside) (of .light)
 
     pub weight-read : getD tally (place j s (not l)) 0 % unit ≡ W M d j s l
     weight-read = omega (arith, parts, small)

@@ -25,10 +25,10 @@ against-one n x z true e = refl
 
 -- no side has more entries against its letter
 pub against-few : (x y a r : ℕ) (t : Letter) → a ≡ bit t → ((l : Letter) → a ≡ bit l → r ≡ pairAt (x / unit ∷ y / unit ∷ []) l)
-    → x < 4294967296 → y < 4294967296 → r ≤ 16383
+    → x < 4294967296 → y < 4294967296 → r ≤ 4095
 against-few x y a r t e h lx ly = go t (h t e)
   where
-    go : (t : Letter) → r ≡ pairAt (x / unit ∷ y / unit ∷ []) t → r ≤ 16383
+    go : (t : Letter) → r ≡ pairAt (x / unit ∷ y / unit ∷ []) t → r ≤ 4095
     go false z = omega arith
     go true z = omega arith
 

@@ -28,8 +28,8 @@ pub fn sums(tally: &[u32], j: usize) -> [[u32; 2]; 2]
 {
     let k = 4 * j;
     [
-        [tally[k + 1] % 262144, tally[k] % 262144],
-        [tally[k + 3] % 262144, tally[k + 2] % 262144],
+        [tally[k + 1] % 1048576, tally[k] % 1048576],
+        [tally[k + 3] % 1048576, tally[k + 2] % 1048576],
     ]
 }
 
@@ -66,8 +66,8 @@ pub fn letters_at(tally: &[u32], j: usize) -> Letters
     let f = reported(s[0][0], s[0][1]);
     let g = reported(s[1][0], s[1][1]);
     let k = 4 * j;
-    let x = against([tally[k + 1] / 262144, tally[k] / 262144], a);
-    let y = against([tally[k + 3] / 262144, tally[k + 2] / 262144], b);
+    let x = against([tally[k + 1] / 1048576, tally[k] / 1048576], a);
+    let y = against([tally[k + 3] / 1048576, tally[k + 2] / 1048576], b);
     Letters {
         first: f,
         second: g,

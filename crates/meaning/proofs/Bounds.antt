@@ -1,5 +1,5 @@
 -- How large sums, charges, costs and table entries get, for any weight limit; and the limits of a block's weights.
-use Prim.Native.Nat.{ℕ, zero, suc, _+_, _-_, _*_, _≤_, _<_, zero-le, _^_}
+use Prim.Native.Nat.{ℕ, zero, suc, suc-le-suc, _+_, _-_, _*_, _≤_, _<_, zero-le, _^_}
 use borrow.Author.Tests.{ltb-true, ltb-false}
 use lib.Dec.{leb, ltb, eqb}
 use lib.ListN.{getD, drop, take, length-take, List·getD-eq-default}
@@ -10,7 +10,7 @@ use mathlib.Core.Path.{_≡_, refl, sym, ap, _∙_, subst}
 use native.Mathlib.Nat.{le-of-eq, le-trans, le-refl, mul-le-mul-right, pow-suc}
 use native.Mathlib.Omega.{arith}
 use Rattle.meaning.specs.Numbers.{bit, run, bigEndian}
-use Rattle.meaning.specs.Block.{Cell, Matrix, hole, noRead, versionField, columnsField, readsField, cellSize, lengthField, cellCount, cellsPart, cellAt, readOf, afterRead, readsOf, readsPart, matrixOf}
+use Rattle.meaning.specs.Block.{Cell, Matrix, hole, noRead, versionField, columnsField, readsField, weightSize, cellSize, lengthField, cellCount, cellsPart, cellAt, readOf, afterRead, readsOf, readsPart, matrixOf}
 use Rattle.meaning.specs.Active.{count, read, active, at, activeCount}
 use Rattle.meaning.specs.Closing.{activeReads}
 use Rattle.meaning.specs.Division.{Side, Division}
@@ -102,7 +102,7 @@ run-all P i (suc n) f x p h (suc k) = run-all P (suc i) n f x p h k
 
 -- the largest weight of a block's version
 abbrev pub heaviest : List ℕ → ℕ
-heaviest b = 256 ^ versionField b - 1
+heaviest b = 256 ^ weightSize b - 1
 
 module _ (size : ℕ) where
   cell-light : (b : List ℕ) → Bytes b → (j : ℕ) → at (readOf size b) j .weight ≤ 256 ^ (size - 1) - 1
@@ -133,10 +133,24 @@ module _ (size : ℕ) where
 pub block-light : (b : List ℕ) → Bytes b → Light (matrixOf b) (heaviest b)
 unfolding matrixOf
 block-light b h r j =
-    subst (λ (n : ℕ). at (read (matrixOf b) r) j .weight ≤ 256 ^ n - 1) (one-less (versionField b)) (reads-light (cellSize b) (readsField b) (readsPart b) (bytes-drop b 9 h) r j)
+    subst (λ (n : ℕ). at (read (matrixOf b) r) j .weight ≤ 256 ^ n - 1) (one-less (weightSize b)) (reads-light (cellSize b) (readsField b) (readsPart b) (bytes-drop b 9 h) r j)
   where
     one-less : (v : ℕ) → 1 + v - 1 ≡ v
     one-less v = omega arith
+
+-- 12,288 entries of the largest weight: 3,133,440 in version 1, 805,294,080 in version 2
+pub limit-one : (b : List ℕ) → versionField b ≡ 1 → 12288 * heaviest b ≡ 3133440
+limit-one b e = ap (λ (v : ℕ). 12288 * (256 ^ cond (eqb v 2) 2 1 - 1)) e
+
+pub limit-two : (b : List ℕ) → versionField b ≡ 2 → 12288 * heaviest b ≡ 805294080
+limit-two b e = ap (λ (v : ℕ). 12288 * (256 ^ cond (eqb v 2) 2 1 - 1)) e
+
+limit-fits : (b : List ℕ) → 12288 * heaviest b < 2 ^ 32
+limit-fits b = go (eqb (versionField b) 2)
+  where
+    go : (t : Bool) → 12288 * (256 ^ cond t 2 1 - 1) < 2 ^ 32
+    go true = omega arith
+    go false = omega arith
 
 -- of an accepted block: 12 reads on 1,024 columns at most, so that the cost and every table entry are at most 12 × 1,024 × the largest weight
 module _ (mode : Mode) (fair : Fair mode) (newest : ℕ) (b : List ℕ) (work out : ℕ) (bytes : Bytes b) (a : Accepted newest b work out) where
@@ -165,6 +179,18 @@ module _ (mode : Mode) (fair : Fair mode) (newest : ℕ) (b : List ℕ) (work ou
       one-side false = let x : W (matrixOf b) d j false l + W (matrixOf b) d j true l ≤ activeCount (matrixOf b) j * heaviest b = sums-bound (matrixOf b) (heaviest b) (block-light b bytes) d j l l in omega arith
       one-side true = let x : W (matrixOf b) d j false l + W (matrixOf b) d j true l ≤ activeCount (matrixOf b) j * heaviest b = sums-bound (matrixOf b) (heaviest b) (block-light b bytes) d j l l in omega arith
 
--- in version 1 that is 3,133,440
-pub limit-one : (b : List ℕ) → versionField b ≡ 1 → 12288 * heaviest b ≡ 3133440
-limit-one b e = ap (λ (v : ℕ). 12288 * (256 ^ v - 1)) e
+  -- so 32 bits hold the cost, every entry and every sum
+  le-lt : {x : ℕ} → x ≤ 12288 * heaviest b → x < 2 ^ 32
+  le-lt h = le-trans (suc-le-suc h) (limit-fits b)
+
+  pub cost-fits : leastCost (chargeIn mode) (matrixOf b) < 2 ^ 32
+  cost-fits = le-lt cost-limit
+
+  pub entry-fits : (j k : ℕ) → j < columnsField b → entry (chargeIn mode) (matrixOf b) j k < 2 ^ 32
+  entry-fits j k l = le-lt (entry-limit j k l)
+
+  pub sums-fit : (d : Division) (j : ℕ) → j < columnsField b → (s : Side) (l : Letter) → W (matrixOf b) d j s l < 2 ^ 32
+  sums-fit d j h s l = le-lt (le-trans (sums-limit d j h s l) (mul-le-mul-right (heaviest b) few))
+    where
+      few : 12 ≤ 12288
+      few = omega arith

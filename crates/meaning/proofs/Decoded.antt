@@ -7,7 +7,7 @@ use mathlib.Core.Path.{_≡_, refl, sym, ap, _∙_, subst}
 use native.Mathlib.Nat.{le-of-eq, le-trans, mul-le-mul-right}
 use native.Mathlib.Omega.{arith}
 use Rattle.meaning.specs.Numbers.{bit, word, long}
-use Rattle.meaning.specs.Block.{Cell, Matrix, hole, versionField, matrixOf}
+use Rattle.meaning.specs.Block.{Cell, Matrix, hole, matrixOf}
 use Rattle.meaning.specs.Active.{count, read, active, at, activeCount}
 use Rattle.meaning.specs.Division.{Side, Division}
 use Rattle.meaning.specs.Charge.{Letter, W, leastCost, best}
@@ -18,7 +18,7 @@ use Rattle.meaning.proofs.Totals.{bit-small, sum-le, sum-bound}
 use Rattle.meaning.proofs.Sums.{at-idle}
 use Rattle.meaning.proofs.Modes.{Fair}
 use Rattle.meaning.proofs.Formed.{Accepted, matrix-reads, matrix-columns}
-use Rattle.meaning.proofs.Bounds.{Bytes, cost-limit}
+use Rattle.meaning.proofs.Bounds.{Bytes, cost-fits}
 use Rattle.meaning.proofs.AnswerBytes.{version-is, length-is, cost-is, flips-is, reads-is, columns-is, length-sides, side-of, length-letters, answer-length, answer-side, answer-letter}
 use Rattle.meaning.proofs.Demand1.{demand1-accepted}
 
@@ -46,18 +46,6 @@ pub flips-limit : (newest : ℕ) (b : List ℕ) (work out : ℕ) → Accepted ne
     → flips (matrixOf b) d h ≤ 12288
 unfolding matrixOf
 flips-limit newest b work out a d h = le-trans (flips-bound (matrixOf b) d h 12 (a .thin)) (mul-le-mul-right 12 (a .block .head .few-columns))
-
--- and of version 1 or 2: the cost fits its field
-pub cost-fits : (mode : Mode) → Fair mode → (newest : ℕ) → newest ≤ 2 → (b : List ℕ) → Bytes b → (work out : ℕ) → Accepted newest b work out
-    → leastCost (chargeIn mode) (matrixOf b) < 2 ^ 32
-cost-fits mode fair newest known b bytes work out a =
-    le-trans (suc-le-suc (cost-limit mode fair newest b work out bytes a)) (fits (versionField b) (le-trans (a .block .head .known) known))
-  where
-    fits : (v : ℕ) → v ≤ 2 → 12288 * (256 ^ v - 1) < 2 ^ 32
-    fits zero h = omega arith
-    fits (suc zero) h = omega arith
-    fits (suc (suc zero)) h = omega arith
-    fits (suc (suc (suc v))) h = let z : ⊥ = omega arith in absurd z
 
 -- a result that says the answer of a mode for a matrix, with the division d: its numbers, and its output byte by byte
 pub record Decodes (mode : Mode) (M : Matrix) (d : Division) (r : Result) : Type 0 where
@@ -138,15 +126,15 @@ module _ (mode : Mode) (M : Matrix) (few-reads : count M ≤ 1024) (few-columns 
       few-letters : length first ≤ 1024
       few-letters = omega (arith, m false)
 
--- the output of an accepted call, of a block of bytes of version 1 or 2, says its answer
-pub accepted-decodes : (mode : Mode) → Fair mode → (newest : ℕ) → newest ≤ 2 → (b work out : List ℕ) → Bytes b
+-- the output of an accepted call, of a block of bytes, says its answer
+pub accepted-decodes : (mode : Mode) → Fair mode → (newest : ℕ) → (b work out : List ℕ) → Bytes b
     → Accepted newest b (length work) (length out)
     → Decodes mode (matrixOf b) (best (chargeIn mode) (matrixOf b)) (callWith mode newest b work out)
-accepted-decodes mode fair newest known b work out bytes a =
+accepted-decodes mode fair newest b work out bytes a =
     let M : Matrix = matrixOf b in
     let d : Division = best (chargeIn mode) M in
     let f : flips M d (haplotypes mode M d) ≤ 12288 = flips-limit newest b (length work) (length out) a d (haplotypes mode M d) in
     subst (Decodes mode M d) (sym (demand1-accepted mode newest b work out a))
     (accepts-decodes mode M (le-trans (le-of-eq (matrix-reads b)) (a .block .head .few-reads))
     (le-trans (le-of-eq (matrix-columns b)) (a .block .head .few-columns)) work out
-    (cost-fits mode fair newest known b bytes (length work) (length out) a) (omega arith))
+    (cost-fits mode fair newest b (length work) (length out) bytes a) (omega arith))

@@ -40,7 +40,7 @@ pub record JudgesRight (newest : ℕ) (b a work : List ℕ) (r : Judged) : Type 
   -- 55: some division and haplotypes cost less, and the second number is the least that any cost
   pub beaten : r .number ≡ 55 → Beaten (matrixOf b) a (r .second)
   -- our answer gets 57, whatever number of flips it states; and what gets 57 is ours byte for byte but for that number
-  pub own : newest ≤ 2 → Bytes b → (f : ℕ) → a ≡ ourAnswer (matrixOf b) f → (r .number ≡ 57) × (r .second ≡ 0)
+  pub own : Bytes b → (f : ℕ) → a ≡ ourAnswer (matrixOf b) f → (r .number ≡ 57) × (r .second ≡ 0)
   pub ours : Bytes a → r .number ≡ 57 → a ≡ ourAnswer (matrixOf b) (long a 9)
   -- the room holds the table, and behind it what was there
   pub room : r .work ≡ over (table charge (matrixOf b)) work
@@ -83,15 +83,15 @@ module _ (newest : ℕ) (b a work : List ℕ) where
         row = verdict-given M a;
         least = least-exactly M a;
         beaten = not-least-beaten M a;
-        own = λ known bytes f e. let v = own known bytes f e in (ap (λ (x : Numbers). x .number) v, ap (λ (x : Numbers). x .second) v);
+        own = λ bytes f e. let v = own bytes f e in (ap (λ (x : Numbers). x .number) v, ap (λ (x : Numbers). x .second) v);
         ours = ours-byte-for-byte M a;
         room = refl;
       })
     where
-      own : newest ≤ 2 → Bytes b → (f : ℕ) → a ≡ ourAnswer (matrixOf b) f → verdict (matrixOf b) a ≡ record { number = 57; second = 0 }
-      own known bytes f e =
+      own : Bytes b → (f : ℕ) → a ≡ ourAnswer (matrixOf b) f → verdict (matrixOf b) a ≡ record { number = 57; second = 0 }
+      own bytes f e =
           ap (verdict (matrixOf b)) e
-          ∙ ours-is-57 newest known b bytes (length work) (answerSize (matrixOf b)) (accepted newest b (length work) (answerSize (matrixOf b)) z) f
+          ∙ ours-is-57 newest b bytes (length work) (answerSize (matrixOf b)) (accepted newest b (length work) (answerSize (matrixOf b)) z) f
 
   pub rejects-right : refused ≢ 0 → RejectsRight newest b work judged
   unfolding rejects
@@ -119,9 +119,9 @@ module _ (newest : ℕ) (b a work : List ℕ) where
       ∙ ap (λ (x : Numbers). rejects x work) e
 
 -- so our own answer to an accepted block gets 57
-pub own-judged : (newest : ℕ) → newest ≤ 2 → (b work : List ℕ) → Bytes b → refusal newest b (length work) (answerSize (matrixOf b)) .number ≡ 0
+pub own-judged : (newest : ℕ) (b work : List ℕ) → Bytes b → refusal newest b (length work) (answerSize (matrixOf b)) .number ≡ 0
     → let r = judgingWith newest b (answer general (matrixOf b)) work in (r .number ≡ 57) × (r .second ≡ 0)
 unfolding answer
-own-judged newest known b work bytes z =
+own-judged newest b work bytes z =
     let M : Matrix = matrixOf b in
-    judges-right newest b (answer general M) work z .own known bytes (flips M (best charge M) (haplotypes general M (best charge M))) refl
+    judges-right newest b (answer general M) work z .own bytes (flips M (best charge M) (haplotypes general M (best charge M))) refl

@@ -20,8 +20,7 @@ use Rattle.meaning.specs.Judge.{statedLength, statedCost, statedReads, s
 use Rattle.meaning.proofs.Modes.{general-fair}
 use Rattle.meaning.proofs.Closing.{Placed}
 use Rattle.meaning.proofs.Formed.{Accepted, formed-placed, matrix-reads, matrix-columns}
-use Rattle.meaning.proofs.Bounds.{Bytes}
-use Rattle.meaning.proofs.Decoded.{cost-fits}
+use Rattle.meaning.proofs.Bounds.{Bytes, cost-fits}
 use Rattle.meaning.proofs.AnswerBytes.{version-is, length-is, cost-is, reads-is, columns-is, block-length, length-sides, length-letters}
 use Rattle.meaning.proofs.VerdictChecks.{GoodForm, LikeCounts, Honest, ourMarks, ourAnswer, own-part}
 use Rattle.meaning.proofs.Verdicts.{ours-row, verdict-only, honest-exactly, judged-57}
@@ -99,13 +98,13 @@ answer-ours M f few-reads few-columns fits a e =
     columns : statedColumns a ≡ length hap1
     columns = rw e (columns-is c f sides hap1 hap2 [] few-letters)
 
--- of an accepted block, of version 1 or 2
-module _ (newest : ℕ) (known : newest ≤ 2) (b : List ℕ) (bytes : Bytes b) (work out : ℕ) (acc : Accepted newest b work out) where
+-- of an accepted block
+module _ (newest : ℕ) (b : List ℕ) (bytes : Bytes b) (work out : ℕ) (acc : Accepted newest b work out) where
   -- our answer gets 57, whatever number of flips it states, and so with its own
   pub ours-is-57 : (f : ℕ) → verdict (matrixOf b) (ourAnswer (matrixOf b) f) ≡ record { number = 57; second = 0 }
   ours-is-57 f =
       ours-exactly (matrixOf b) (ourAnswer (matrixOf b) f) (formed-placed newest b (acc .block)) .1
-      (answer-ours (matrixOf b) f (le-trans (le-of-eq (matrix-reads b)) (acc .block .head .few-reads)) (le-trans (le-of-eq (matrix-columns b)) (acc .block .head .few-columns)) (cost-fits general general-fair newest known b bytes work out acc) (ourAnswer (matrixOf b) f) (sym (append-nil (ourAnswer (matrixOf b) f))))
+      (answer-ours (matrixOf b) f (le-trans (le-of-eq (matrix-reads b)) (acc .block .head .few-reads)) (le-trans (le-of-eq (matrix-columns b)) (acc .block .head .few-columns)) (cost-fits general general-fair newest b work out bytes acc) (ourAnswer (matrixOf b) f) (sym (append-nil (ourAnswer (matrixOf b) f))))
 
   pub answer-is-57 : verdict (matrixOf b) (answer general (matrixOf b)) ≡ record { number = 57; second = 0 }
   unfolding answer

@@ -1,7 +1,9 @@
 -- The fragment block: its fields, its reads, and the matrix that it stands for.
 -- Nothing is checked here. `Refusals` says which blocks are refused; of any other this is the meaning.
 use Prim.Native.Nat.{ℕ, zero, suc, _+_, _*_, _-_, _/_}
+use mathlib.Core.Bool.{cond}
 use mathlib.Core.List.{List, [], _∷_}
+use lib.Dec.{eqb}
 use lib.ListN.{getD, take, drop}
 use Rattle.meaning.specs.Numbers.{bigEndian, word, long, run}
 
@@ -38,9 +40,17 @@ columnsField b = word b 5
 abbrev pub readsField : List ℕ → ℕ
 readsField b = word b 7
 
--- the bytes of one cell: its letter, and as many bytes of weight as the version's number
+-- the newest version
+abbrev pub latest : ℕ
+latest = 2
+
+-- the bytes of a weight: one in version 1, two in version 2
+abbrev pub weightSize : List ℕ → ℕ
+weightSize b = cond (eqb (versionField b) 2) 2 1
+
+-- the bytes of one cell: its letter and its weight
 abbrev pub cellSize : List ℕ → ℕ
-cellSize b = 1 + versionField b
+cellSize b = 1 + weightSize b
 
 -- A read, from a part of the block that starts at it: L, the first column, then c cells of `size` bytes each; L = 2 + size × c
 abbrev pub lengthField : List ℕ → ℕ

@@ -5,7 +5,7 @@ use mathlib.Core.Bool.{cond}
 use mathlib.Core.List.{List, _++_}
 use lib.ListN.{length, take, drop}
 use lib.Dec.{eqb}
-use Rattle.meaning.specs.Block.{Matrix, matrixOf}
+use Rattle.meaning.specs.Block.{Matrix, latest, matrixOf}
 use Rattle.meaning.specs.Charge.{leastCost}
 use Rattle.meaning.specs.Letters.{Mode, chargeIn, general}
 use Rattle.meaning.specs.Table.{table}
@@ -54,7 +54,7 @@ callOn mode M work out =
 
 -- what `phase` does with a block, a work room and an output
 unfoldable pub call : List ℕ → List ℕ → List ℕ → Result
-call = callWith general 1
+call = callWith general latest
 
 -- a contract with it, by parts: each is an equation
 pub record Answers (b work out : List ℕ) (r : Result) : Type 0 where

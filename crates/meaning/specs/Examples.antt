@@ -1,5 +1,5 @@
 -- Worked examples, proved by computing.
--- P1 to P9 and one more, as one list under one statement: each block, called with room for the table and the answer and one more of each, gives number 0
+-- P1 to P9 and one more, the same in version 2, and two whose weights need two bytes, as one list under one statement: each block, called with room for the table and the answer and one more of each, gives number 0
 -- and the cost, and leaves the table and the answer block in front of what the rooms held. Then one refusal of each number, and one answer for each verdict.
 use Prim.Native.Nat.{ℕ, suc}
 use mathlib.Core.Path.{_≡_, refl}
@@ -161,12 +161,57 @@ p10 =
       entries = 0 ∷ [];
     }
 
+-- P1 to P10 in version 2: the same answers
+abbrev pub again : Example → List ℕ → Example
+again s b = record { block = b; cost = s .cost; flips = s .flips; sides = s .sides; hap1 = s .hap1; hap2 = s .hap2; entries = s .entries }
+
+abbrev pub inVersionTwo : List Example
+inVersionTwo =
+    again p1 (2 ∷ 0 ∷ 0 ∷ 0 ∷ 38 ∷ 0 ∷ 2 ∷ 0 ∷ 4 ∷ 0 ∷ 5 ∷ 0 ∷ 0 ∷ 0 ∷ 0 ∷ 5 ∷ 0 ∷ 8 ∷ 0 ∷ 0 ∷ 1 ∷ 0 ∷ 3 ∷ 0 ∷ 0 ∷ 2 ∷ 0 ∷ 8 ∷ 0 ∷ 0 ∷ 1 ∷ 0 ∷ 6 ∷ 1 ∷ 0 ∷ 1 ∷ 0 ∷ 5 ∷ 0 ∷ 1 ∷ 0 ∷ 0 ∷ 2 ∷ [])
+    ∷ again p2 (2 ∷ 0 ∷ 0 ∷ 0 ∷ 43 ∷ 0 ∷ 3 ∷ 0 ∷ 3 ∷ 0 ∷ 11 ∷ 0 ∷ 0 ∷ 0 ∷ 0 ∷ 4 ∷ 2 ∷ 0 ∷ 0 ∷ 1 ∷ 0 ∷ 3 ∷ 0 ∷ 11 ∷ 0 ∷ 0 ∷ 0 ∷ 0 ∷ 5 ∷ 0 ∷ 0 ∷ 5 ∷ 0 ∷ 0 ∷ 5 ∷ 0 ∷ 11 ∷ 0 ∷ 0 ∷ 1 ∷ 0 ∷ 5 ∷ 1 ∷ 0 ∷ 5 ∷ 1 ∷ 0 ∷ 5 ∷ [])
+    ∷ again p3 (2 ∷ 0 ∷ 0 ∷ 0 ∷ 4 ∷ 0 ∷ 1 ∷ 0 ∷ 0 ∷ [])
+    ∷ again p4 (2 ∷ 0 ∷ 0 ∷ 0 ∷ 11 ∷ 0 ∷ 1 ∷ 0 ∷ 1 ∷ 0 ∷ 5 ∷ 0 ∷ 0 ∷ 0 ∷ 0 ∷ 7 ∷ [])
+    ∷ again p5 (2 ∷ 0 ∷ 0 ∷ 0 ∷ 18 ∷ 0 ∷ 1 ∷ 0 ∷ 2 ∷ 0 ∷ 5 ∷ 0 ∷ 0 ∷ 0 ∷ 0 ∷ 5 ∷ 0 ∷ 5 ∷ 0 ∷ 0 ∷ 1 ∷ 0 ∷ 5 ∷ [])
+    ∷ again p6 (2 ∷ 0 ∷ 0 ∷ 0 ∷ 18 ∷ 0 ∷ 1 ∷ 0 ∷ 2 ∷ 0 ∷ 5 ∷ 0 ∷ 0 ∷ 0 ∷ 0 ∷ 3 ∷ 0 ∷ 5 ∷ 0 ∷ 0 ∷ 0 ∷ 0 ∷ 3 ∷ [])
+    ∷ again p7 (2 ∷ 0 ∷ 0 ∷ 0 ∷ 18 ∷ 0 ∷ 1 ∷ 0 ∷ 2 ∷ 0 ∷ 5 ∷ 0 ∷ 0 ∷ 0 ∷ 0 ∷ 0 ∷ 0 ∷ 5 ∷ 0 ∷ 0 ∷ 1 ∷ 0 ∷ 0 ∷ [])
+    ∷ again p8 (2 ∷ 0 ∷ 0 ∷ 0 ∷ 11 ∷ 0 ∷ 2 ∷ 0 ∷ 1 ∷ 0 ∷ 5 ∷ 0 ∷ 0 ∷ 1 ∷ 0 ∷ 4 ∷ [])
+    ∷ again p9 (2 ∷ 0 ∷ 0 ∷ 0 ∷ 15 ∷ 0 ∷ 1 ∷ 0 ∷ 2 ∷ 0 ∷ 2 ∷ 0 ∷ 0 ∷ 0 ∷ 5 ∷ 0 ∷ 0 ∷ 0 ∷ 0 ∷ 7 ∷ [])
+    ∷ again p10 (2 ∷ 0 ∷ 0 ∷ 0 ∷ 11 ∷ 0 ∷ 1 ∷ 0 ∷ 1 ∷ 0 ∷ 5 ∷ 0 ∷ 0 ∷ 0 ∷ 0 ∷ 0 ∷ [])
+    ∷ []
+
+-- 0:65535 1:257 / 1:512 1:65280 / 0:256 0:300 / 0:2 1:65535: by the low bytes alone, the high bytes alone, the bytes exchanged or sums of 16 bits other sides
+abbrev pub p11 : Example
+p11 =
+    record {
+      block = 2 ∷ 0 ∷ 0 ∷ 0 ∷ 44 ∷ 0 ∷ 2 ∷ 0 ∷ 4 ∷ 0 ∷ 8 ∷ 0 ∷ 0 ∷ 0 ∷ 255 ∷ 255 ∷ 1 ∷ 1 ∷ 1 ∷ 0 ∷ 8 ∷ 0 ∷ 0 ∷ 1 ∷ 2 ∷ 0 ∷ 1 ∷ 255 ∷ 0 ∷ 0 ∷ 8 ∷ 0 ∷ 0 ∷ 0 ∷ 1 ∷ 0 ∷ 0 ∷ 1 ∷ 44 ∷ 0 ∷ 8 ∷ 0 ∷ 0 ∷ 0 ∷ 0 ∷ 2 ∷ 1 ∷ 255 ∷ 255 ∷ [];
+      cost = 259;
+      flips = 2;
+      sides = 0 ∷ 1 ∷ 0 ∷ 1 ∷ [];
+      hap1 = 0 ∷ 0 ∷ [];
+      hap2 = 1 ∷ 1 ∷ [];
+      entries = 512 ∷ 0 ∷ 512 ∷ 256 ∷ 512 ∷ 2 ∷ 512 ∷ 258 ∷ 812 ∷ 300 ∷ 512 ∷ 556 ∷ 812 ∷ 259 ∷ 812 ∷ 558 ∷ [];
+    }
+
+-- five reads 0:65535 and one 1:65535: with sums of 18 bits the first entry is 65,531
+abbrev pub p12 : Example
+p12 =
+    record {
+      block = 2 ∷ 0 ∷ 0 ∷ 0 ∷ 46 ∷ 0 ∷ 1 ∷ 0 ∷ 6 ∷ 0 ∷ 5 ∷ 0 ∷ 0 ∷ 0 ∷ 255 ∷ 255 ∷ 0 ∷ 5 ∷ 0 ∷ 0 ∷ 0 ∷ 255 ∷ 255 ∷ 0 ∷ 5 ∷ 0 ∷ 0 ∷ 0 ∷ 255 ∷ 255 ∷ 0 ∷ 5 ∷ 0 ∷ 0 ∷ 0 ∷ 255 ∷ 255 ∷ 0 ∷ 5 ∷ 0 ∷ 0 ∷ 0 ∷ 255 ∷ 255 ∷ 0 ∷ 5 ∷ 0 ∷ 0 ∷ 1 ∷ 255 ∷ 255 ∷ [];
+      cost = 0;
+      flips = 0;
+      sides = 0 ∷ 0 ∷ 0 ∷ 0 ∷ 0 ∷ 1 ∷ [];
+      hap1 = 0 ∷ [];
+      hap2 = 1 ∷ [];
+      entries = 65535 ∷ 65535 ∷ 65535 ∷ 65535 ∷ 65535 ∷ 65535 ∷ 65535 ∷ 65535 ∷ 65535 ∷ 65535 ∷ 65535 ∷ 65535 ∷ 65535 ∷ 65535 ∷ 65535 ∷ 65535 ∷ 0 ∷ 65535 ∷ 65535 ∷ 65535 ∷ 65535 ∷ 65535 ∷ 65535 ∷ 65535 ∷ 65535 ∷ 65535 ∷ 65535 ∷ 65535 ∷ 65535 ∷ 65535 ∷ 65535 ∷ 65535 ∷ [];
+    }
+
 abbrev pub examples : List Example
-examples = p1 ∷ p2 ∷ p3 ∷ p4 ∷ p5 ∷ p6 ∷ p7 ∷ p8 ∷ p9 ∷ p10 ∷ []
+examples = p1 ∷ p2 ∷ p3 ∷ p4 ∷ p5 ∷ p6 ∷ p7 ∷ p8 ∷ p9 ∷ p10 ∷ (inVersionTwo ++ (p11 ∷ p12 ∷ []))
 
 pub examples-hold : All Holds examples
 unfolding opened
-examples-hold = (refl, (refl, (refl, (refl, (refl, (refl, (refl, (refl, (refl, (refl, tt))))))))))
+examples-hold =
+    (refl, (refl, (refl, (refl, (refl, (refl, (refl, (refl, (refl, (refl, (refl, (refl, (refl, (refl, (refl, (refl, (refl, (refl, (refl, (refl, (refl, (refl, tt))))))))))))))))))))))
 
 -- A refusal of each number, with the rooms at which it is given: both stay as they were
 pub record Refused : Type 0 where
@@ -192,11 +237,11 @@ r1 =
       second = 0;
     }
 
--- version 2
+-- version 3
 abbrev pub r2 : Refused
 r2 =
     record {
-      block = 2 ∷ 0 ∷ 0 ∷ 0 ∷ 4 ∷ 0 ∷ 1 ∷ 0 ∷ 0 ∷ [];
+      block = 3 ∷ 0 ∷ 0 ∷ 0 ∷ 4 ∷ 0 ∷ 1 ∷ 0 ∷ 0 ∷ [];
       work = 99;
       out = 99;
       number = 2;
@@ -236,6 +281,17 @@ r5 =
       second = 1;
     }
 
+-- version 2 with a read of L = 4, which is even: two bytes are no cell of three
+abbrev pub r5-two : Refused
+r5-two =
+    record {
+      block = 2 ∷ 0 ∷ 0 ∷ 0 ∷ 10 ∷ 0 ∷ 1 ∷ 0 ∷ 1 ∷ 0 ∷ 4 ∷ 0 ∷ 0 ∷ 0 ∷ 5 ∷ [];
+      work = 99;
+      out = 99;
+      number = 5;
+      second = 0;
+    }
+
 -- read 0 ends one past the last column, and has a letter 3
 abbrev pub r6 : Refused
 r6 =
@@ -256,6 +312,17 @@ r7 =
       out = 99;
       number = 7;
       second = 1;
+    }
+
+-- version 2: a hole of weight 256, whose low byte is 0
+abbrev pub r7-two : Refused
+r7-two =
+    record {
+      block = 2 ∷ 0 ∷ 0 ∷ 0 ∷ 17 ∷ 0 ∷ 3 ∷ 0 ∷ 1 ∷ 0 ∷ 11 ∷ 0 ∷ 0 ∷ 0 ∷ 0 ∷ 1 ∷ 2 ∷ 1 ∷ 0 ∷ 0 ∷ 0 ∷ 1 ∷ [];
+      work = 99;
+      out = 99;
+      number = 7;
+      second = 0;
     }
 
 -- a byte remains
@@ -303,13 +370,13 @@ r11 =
     }
 
 abbrev pub refusals : List Refused
-refusals = r1 ∷ r2 ∷ r3 ∷ r4 ∷ r5 ∷ r6 ∷ r7 ∷ r8 ∷ r9 ∷ r10 ∷ r11 ∷ []
+refusals = r1 ∷ r2 ∷ r3 ∷ r4 ∷ r5 ∷ r5-two ∷ r6 ∷ r7 ∷ r7-two ∷ r8 ∷ r9 ∷ r10 ∷ r11 ∷ []
 
 pub refusals-hold : All Refuses refusals
 unfolding opened
-refusals-hold = (refl, (refl, (refl, (refl, (refl, (refl, (refl, (refl, (refl, (refl, (refl, tt)))))))))))
+refusals-hold = (refl, (refl, (refl, (refl, (refl, (refl, (refl, (refl, (refl, (refl, (refl, (refl, (refl, tt)))))))))))))
 
--- Judgements: P1 to P9's answers are ours, and for each verdict an answer that gets it. The work room has one entry more than the table.
+-- Judgements: the examples' answers are ours, and for each verdict an answer that gets it. The work room has one entry more than the table.
 pub record Judgement : Type 0 where
   pub of : Example
   pub answer : List ℕ
@@ -378,4 +445,4 @@ judgements = map own examples ++ (j50 ∷ j51 ∷ j52 ∷ j52-letter ∷ j53 ∷
 pub judgements-hold : All Judges judgements
 unfolding opened
 judgements-hold =
-    (refl, (refl, (refl, (refl, (refl, (refl, (refl, (refl, (refl, (refl, (refl, (refl, (refl, (refl, (refl, (refl, (refl, (refl, (refl, (refl, (refl, (refl, tt))))))))))))))))))))))
+    (refl, (refl, (refl, (refl, (refl, (refl, (refl, (refl, (refl, (refl, (refl, (refl, (refl, (refl, (refl, (refl, (refl, (refl, (refl, (refl, (refl, (refl, (refl, (refl, (refl, (refl, (refl, (refl, (refl, (refl, (refl, (refl, (refl, (refl, tt))))))))))))))))))))))))))))))))))

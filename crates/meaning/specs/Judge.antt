@@ -6,7 +6,7 @@ use mathlib.Core.List.{List}
 use lib.ListN.{length, getD, take, drop}
 use lib.Dec.{ltb, eqb}
 use Rattle.meaning.specs.Numbers.{anyTo, word, long}
-use Rattle.meaning.specs.Block.{Matrix, matrixOf}
+use Rattle.meaning.specs.Block.{Matrix, latest, matrixOf}
 use Rattle.meaning.specs.Active.{count}
 use Rattle.meaning.specs.Division.{Side, Division}
 use Rattle.meaning.specs.Charge.{W, charge, leastCost}
@@ -118,7 +118,7 @@ judgingOn M a work =
 
 -- what `judge` does with a block, a builder's answer and a work room
 unfoldable pub judging : List ℕ → List ℕ → List ℕ → Judged
-judging = judgingWith 1
+judging = judgingWith latest
 
 -- a contract with it, by parts: each is an equation
 pub record JudgedBy (b a work : List ℕ) (r : Judged) : Type 0 where

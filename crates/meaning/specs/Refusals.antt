@@ -34,7 +34,7 @@ otherSize b = not (eqb (sizeField b) (length b - 5))
 unfoldable pub badCounts : List ℕ → Bool
 badCounts b = eqb (columnsField b) 0 || (ltb 1024 (columnsField b) || ltb 1024 (readsField b))
 
--- 5, of the read that b starts with: the length field is cut off, L < 2, its cells do not fill L (L is odd, where a cell has two bytes), or L runs past the block
+-- 5, of the read that b starts with: the length field is cut off, L < 2, its cells do not fill L (L is odd in version 1, L - 2 no multiple of 3 in version 2), or L runs past the block
 unfoldable pub badLength : ℕ → List ℕ → Bool
 badLength size b = ltb (length b) 2 || (ltb (lengthField b) 2 || (not (eqb ((lengthField b - 2) % size) 0) || ltb (length b) (2 + lengthField b)))
 

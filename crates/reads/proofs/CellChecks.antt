@@ -14,7 +14,6 @@ use Rattle.meaning.specs.Block.{Cell, cellAt}
 use Rattle.meaning.specs.Refusals.{badCell, isHole, badCells}
 use Rattle.meaning.proofs.Lists.{any-at, or-true-cases, and-left, and-right}
 use Rattle.meaning.proofs.Refusals.{or-false-left, or-false-right}
-use Rattle.layout.proofs.Fields.{byte-is}
 use Rattle.layout.proofs.Tests.{none-at, none-of}
 use Rattle.reads.specs.Cells.{faultyCell}
 
@@ -31,24 +30,20 @@ module _ (size : ℕ) (part : List ℕ) (i : ℕ) where
   unfolding faultyCell badCell cellAt
   is-above h = sym (simp (lt-ltb 2 (getD part (size * i) 0) h))
 
-  module _ (two : size ≡ 2) (hole : getD part (size * i) 0 ≡ 2) where
-    weight-is : bigEndian (size - 1) part (size * i + 1) ≡ getD part (size * i + 1) 0
-    weight-is = ap (λ (k : ℕ). bigEndian (k - 1) part (size * i + 1)) two ∙ byte-is part (size * i + 1)
-
-    pub is-weighted : getD part (size * i + 1) 0 ≢ 0 → true ≡ faultyCell size part i
+  -- a hole, and its weight
+  module _ (hole : getD part (size * i) 0 ≡ 2) (w : ℕ) (is : w ≡ bigEndian (size - 1) part (size * i + 1)) where
+    pub is-weighted : w ≢ 0 → true ≡ faultyCell size part i
     unfolding faultyCell badCell cellAt
-    is-weighted h =
-        let w : 0 < getD part (size * i + 1) 0 = omega arith in
-        sym (simp (hole, weight-is, lt-ltb 0 (getD part (size * i + 1) 0) w))
+    is-weighted h = let l : 0 < w = omega arith in sym (simp (hole, sym is, lt-ltb 0 w l))
 
-    by-place : getD part (size * i + 1) 0 ≡ 0 → (eqb i 0 || eqb (size * i + size) (length part)) ≡ faultyCell size part i
+    by-place : w ≡ 0 → (eqb i 0 || eqb (size * i + size) (length part)) ≡ faultyCell size part i
     unfolding faultyCell badCell isHole cellAt
-    by-place h = sym (simp (hole, weight-is, h))
+    by-place h = sym (simp (hole, sym is, h))
 
-    pub is-first : getD part (size * i + 1) 0 ≡ 0 → i ≡ 0 → true ≡ faultyCell size part i
+    pub is-first : w ≡ 0 → i ≡ 0 → true ≡ faultyCell size part i
     is-first h z = sym (ap (λ (t : Bool). t || eqb (size * i + size) (length part)) (eq-eqb i 0 z)) ∙ by-place h
 
-    pub is-last : getD part (size * i + 1) 0 ≡ 0 → i ≢ 0 → eqb (size * i + size) (length part) ≡ faultyCell size part i
+    pub is-last : w ≡ 0 → i ≢ 0 → eqb (size * i + size) (length part) ≡ faultyCell size part i
     is-last h z = sym (ap (λ (t : Bool). t || eqb (size * i + size) (length part)) (ne-eqb i 0 z)) ∙ by-place h
 
 -- all cells of a read, c of them

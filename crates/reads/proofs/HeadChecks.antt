@@ -1,9 +1,10 @@
 -- The checks 5 and 6 of the read that a part of the bytes starts with, as the branches of `read_head` meet them.
-use Prim.Native.Nat.{ℕ, _+_, _-_, _%_, _≤_, _<_}
+use Prim.Native.Nat.{ℕ, _+_, _-_, _*_, _/_, _%_, _≤_, _<_}
 use mathlib.Core.Bool.{Bool, true, false, cond, not, _&&_, _||_, or-true}
 use mathlib.Core.List.{List}
 use mathlib.Core.Logic.{_≢_}
 use mathlib.Core.Path.{_≡_, refl, sym, ap}
+use native.Mathlib.Nat.{div-add-mod', mul-comm}
 use native.Mathlib.Omega.{arith}
 use lib.ListN.{length, drop, length-drop}
 use lib.Dec.{eqb}
@@ -12,6 +13,13 @@ use Rattle.meaning.specs.Block.{lengthField, firstField, cellCount}
 use Rattle.meaning.specs.Refusals.{badLength, badPlace}
 use Rattle.layout.proofs.Laws.{Filled, filled}
 use Rattle.reads.specs.Search.{headFault, CellsLie}
+
+-- whole cells, by what is left of a division and by what it gives
+filled-by : (size n : ℕ) → n % size ≡ 0 → size * (n / size) ≡ n
+filled-by size n e = omega (arith, mul-comm size (n / size), div-add-mod' n size)
+
+pub left-by : (size n : ℕ) → size * (n / size) ≡ n → n % size ≡ 0
+left-by size n e = omega (arith, mul-comm size (n / size), div-add-mod' n size)
 
 -- the check 5 passes
 pub good-length : (size : ℕ) (b : List ℕ) → 2 ≤ lengthField b → (lengthField b - 2) % size ≡ 0 → 2 + lengthField b ≤ length b
@@ -34,9 +42,9 @@ module _ (size m : ℕ) (b : List ℕ) where
   unfolding badLength
   too-small h = by-length (simp (lt-ltb (lengthField b) 2 h, or-true))
 
-  pub unfilled : (lengthField b - 2) % size ≢ 0 → 5 ≡ headFault size m b
+  pub unfilled : size * cellCount size b ≢ lengthField b - 2 → 5 ≡ headFault size m b
   unfolding badLength
-  unfilled h = by-length (simp (ne-eqb ((lengthField b - 2) % size) 0 h, or-true))
+  unfilled h = by-length (simp (ne-eqb ((lengthField b - 2) % size) 0 (λ e. h (filled-by size (lengthField b - 2) e)), or-true))
 
   pub too-long : length b < 2 + lengthField b → 5 ≡ headFault size m b
   unfolding badLength

@@ -4,7 +4,7 @@ use mathlib.Core.Bool.{Bool, true, false, cond}
 use mathlib.Core.List.{List}
 use mathlib.Core.Logic.{_≢_}
 use mathlib.Core.Path.{_≡_, sym, ap, ap₂, _∙_}
-use native.Mathlib.Nat.{div-eq-of-eq-mul-right, div-le-self}
+use native.Mathlib.Nat.{div-eq-of-eq-mul-right, div-le-self, div-add-mod', mul-comm, mul-le-mul-right}
 use native.Mathlib.Numerals.{add-one}
 use native.Mathlib.Omega.{arith}
 use lib.ListN.{length, take, drop, length-take, length-drop}
@@ -49,8 +49,11 @@ module _ (size m : ℕ) (b : List ℕ) where
 pub cell-below : (size n i : ℕ) → i < n / size → i < n
 cell-below size n i h = omega (arith, div-le-self n size)
 
-pub cell-inside : (size n i : ℕ) → size ≡ 2 → i < n / size → size * i + 1 < n
-cell-inside size n i two h = omega (arith, ap (λ (k : ℕ). k * i) two, ap (λ (k : ℕ). n / k) two)
+pub cell-inside : (size n i : ℕ) → i < n / size → size * i + size ≤ n
+cell-inside size n i h =
+    let next : size * suc i ≡ suc i * size = mul-comm size (suc i) in
+    let below : suc i * size ≤ n / size * size = mul-le-mul-right size h in
+    omega (arith, div-add-mod' n size)
 
 -- the cells of the read at `at`, as the part of the bytes that starts at `start` and ends at `end`
 module _ (size : ℕ) (some : 0 < size) (reads : List ℕ) (at start end : ℕ) (lie : CellsLie size reads at start end) where

@@ -3,7 +3,7 @@ ghost use mathlib.Core.Path.{_≡_};
 ghost use Prim.Native.Nat.{_+_, _*_, _≤_, _<_};
 ghost use lib.ListN.{length, drop};
 ghost use Rattle.meaning.specs.Refusals.{readsFault};
-ghost use Rattle.layout.specs.Reads.{Lawful};
+ghost use Rattle.layout.specs.Reads.{CellSize, Lawful};
 ghost use Rattle.layout.specs.Places.{Noted};
 ghost use Rattle.reads.specs.Search.{headNumber, headFault, HeadPlace, searchNumbers, SearchEnd};
 ghost use Rattle.reads.specs.Cells.{faultyCell};
@@ -25,7 +25,7 @@ pub enum Search {
 
 // Whether cell i of a read's cells is faulty: a letter above 2, a hole with weight, or a hole that is the first or the last cell.
 fn cell_bad(cells: &[u8], size: usize, i: usize) -> bool
-    requires { ⌜ (size ≡ 2) × (size * i + 1 < length (now cells)) ⌝ }
+    requires { ⌜ CellSize size × (size * i + size ≤ length (now cells)) ⌝ }
     ensures { λ r. ⌜ r ≡ faultyCell size (now (cells .entry)) i ⌝ }
 {
     let at = size * i;
@@ -36,7 +36,7 @@ fn cell_bad(cells: &[u8], size: usize, i: usize) -> bool
     if letter > 2 {
         return true;
     }
-    if cells[at + 1] != 0 {
+    if layout::weight_at(cells, size, at) != 0 {
         return true;
     }
     if i == 0 {
@@ -47,7 +47,7 @@ fn cell_bad(cells: &[u8], size: usize, i: usize) -> bool
 
 // The read at `at`: the checks 5 and 6.
 fn read_head(shape: layout::Shape, reads: &[u8], at: usize) -> Head
-    requires { ⌜ (at ≤ length (now reads)) × ((0 < shape .size) × (shape .m ≤ 1024)) ⌝ }
+    requires { ⌜ (at ≤ length (now reads)) × (CellSize (shape .size) × (shape .m ≤ 1024)) ⌝ }
     ensures { λ r. ⌜ headNumber r ≡ headFault (shape .size) (shape .m) (drop at (now (reads .entry))) ⌝ }
     ensures { λ r. ⌜ HeadPlace (shape .size) (now (reads .entry)) at r ⌝ }
 {
@@ -59,14 +59,14 @@ fn read_head(shape: layout::Shape, reads: &[u8], at: usize) -> Head
     if len < 2 {
         return Head::Length;
     }
-    if (len - 2) % size != 0 {
+    let count = layout::cells_in(len - 2, size);
+    if size * count != len - 2 {
         return Head::Length;
     }
     if reads.len() - at < len + 2 {
         return Head::Length;
     }
     let first = layout::word_at(reads, at + 2);
-    let count = (len - 2) / size;
     if count == 0 {
         if first != 0 {
             return Head::Place;
@@ -83,7 +83,7 @@ fn read_head(shape: layout::Shape, reads: &[u8], at: usize) -> Head
 
 // The checks 5, 6 and 7 of the n reads: the search stops at the first faulty cell of the first faulty read.
 pub fn first_fault(shape: layout::Shape, reads: &[u8]) -> Search
-    requires { ⌜ (shape .size ≡ 2) × ((shape .m ≤ 1024) × (shape .n ≤ 1024)) ⌝ }
+    requires { ⌜ CellSize (shape .size) × ((shape .m ≤ 1024) × (shape .n ≤ 1024)) ⌝ }
     ensures { λ r. ⌜ searchNumbers r ≡ readsFault (shape .size) (shape .m) (shape .n) 0 (now (reads .entry)) ⌝ }
     ensures { λ r. ⌜ SearchEnd (now (reads .entry)) (shape .n) r ⌝ }
 {
@@ -104,7 +104,7 @@ pub fn first_fault(shape: layout::Shape, reads: &[u8]) -> Search
             }
             Head::Cells { start, end } => {
                 let cells = &reads[start..end];
-                let count = cells.len() / size;
+                let count = layout::cells_in(cells.len(), size);
                 let mut i: usize = 0;
                 while i < count {
                     if cell_bad(cells, size, i) {
@@ -130,10 +130,11 @@ pub fn places(shape: layout::Shape, reads: &[u8], places: &mut [u32])
     while r < shape.n {
         let len = layout::word_at(reads, at);
         let first = layout::word_at(reads, at + 2);
+        let count = layout::cells_in(len - 2, size);
         let k = 3 * r;
         places[k] = (at + 4) as u32;
         places[k + 1] = first as u32;
-        places[k + 2] = (first + (len - 2) / size) as u32;
+        places[k + 2] = (first + count) as u32;
         at = at + 2 + len;
         r += 1;
     }

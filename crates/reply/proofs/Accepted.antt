@@ -3,9 +3,8 @@ use Prim.Native.Nat.{ℕ, _≤_}
 use mathlib.Core.Path.{_≡_, _∙_}
 use mathlib.Core.Bool.{true, false}
 use mathlib.Core.List.{List}
-use native.Mathlib.Omega.{arith}
 use lib.ListN.{length, replicate, length-replicate}
-use Rattle.meaning.specs.Block.{matrixOf}
+use Rattle.meaning.specs.Block.{latest, matrixOf}
 use Rattle.meaning.specs.Charge.{charge, leastCost, best}
 use Rattle.meaning.specs.Letters.{general, haplotypes, flips}
 use Rattle.meaning.specs.Answer.{sidesOf, lettersOf}
@@ -17,13 +16,13 @@ use Rattle.text.proofs.Accepted.{fiveLines, accepted-lines}
 use Rattle.reply.specs.Printed.{printed}
 use Rattle.reply.proofs.Laws.{printed-call}
 
-pub accepted-printed : (input : List ℕ) → Bytes input → length input ≤ 65536 → Accepted 1 input 16384 4096
+pub accepted-printed : (input : List ℕ) → Bytes input → length input ≤ 65536 → Accepted latest input 16384 4096
     → let M = matrixOf input in let d = best charge M in
     printed input
     ≡ fiveLines (leastCost charge M) (flips M d (haplotypes general M d)) (sidesOf M d) (lettersOf general M d false) (lettersOf general M d true)
 unfolding call
 accepted-printed input bytes l a =
-    printed-call input l ∙ accepted-lines general 1 input (replicate 16384 0) (replicate 4096 0) lent general-fair (omega arith) bytes
+    printed-call input l ∙ accepted-lines general latest input (replicate 16384 0) (replicate 4096 0) lent general-fair bytes
   where
-    lent : Accepted 1 input (length (replicate {A = ℕ} 16384 0)) (length (replicate {A = ℕ} 4096 0))
+    lent : Accepted latest input (length (replicate {A = ℕ} 16384 0)) (length (replicate {A = ℕ} 4096 0))
     lent = rw (length-replicate {A = ℕ} 16384 0, length-replicate {A = ℕ} 4096 0) a

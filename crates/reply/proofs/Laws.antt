@@ -6,6 +6,7 @@ use mathlib.Core.List.{List}
 use lib.ListN.{length}
 use lib.Dec.{eqb}
 use borrow.Author.Tests.{eqb-true, eqb-false, lt-ltb, le-ltb}
+use Rattle.meaning.specs.Block.{latest}
 use Rattle.meaning.specs.Letters.{general}
 use Rattle.meaning.specs.Refusals.{refusal}
 use Rattle.meaning.specs.Call.{Result, refuses, call}
@@ -20,15 +21,15 @@ module _ (b work out : List ℕ) where
   -- number 0 is given only on acceptance, and the output then starts with the answer block
   pub whole-out : call b work out .number ≡ 0 → Whole (call b work out .out)
   unfolding call refuses
-  whole-out z = go (eqb (refusal 1 b (length work) (length out) .number) 0) refl
+  whole-out z = go (eqb (refusal latest b (length work) (length out) .number) 0) refl
     where
-      go : (t : Bool) → eqb (refusal 1 b (length work) (length out) .number) 0 ≡ t → Whole (call b work out .out)
+      go : (t : Bool) → eqb (refusal latest b (length work) (length out) .number) 0 ≡ t → Whole (call b work out .out)
       go true e =
-          let r : refusal 1 b (length work) (length out) .number ≡ 0 = eqb-true _ 0 e in
-          accepted-whole general 1 b work out (accepted 1 b (length work) (length out) r)
+          let r : refusal latest b (length work) (length out) .number ≡ 0 = eqb-true _ 0 e in
+          accepted-whole general latest b work out (accepted latest b (length work) (length out) r)
       go false e =
-          let n : refusal 1 b (length work) (length out) .number ≡ 0 → ⊥ = eqb-false _ 0 e in
-          absurd (n (sym (ap (λ (x : Result). x .number) (call-refuses general 1 b work out n)) ∙ z))
+          let n : refusal latest b (length work) (length out) .number ≡ 0 → ⊥ = eqb-false _ 0 e in
+          absurd (n (sym (ap (λ (x : Result). x .number) (call-refuses general latest b work out n)) ∙ z))
 
 pub printed-long : (input : List ℕ) → 65536 < length input → printed input ≡ refusalText 12 65536
 unfolding printed

@@ -12,9 +12,9 @@ use Rattle.meaning.specs.Active.{count, read, at}
 use Rattle.meaning.specs.Charge.{against, W}
 use Rattle.meaning.specs.Letters.{disagreement}
 use Rattle.meaning.specs.Judge.{statedCost, statedDivision, statedHaplotypes, wrongCost}
-use Rattle.meaning.proofs.Totals.{sum-ext, sum-bound}
+use Rattle.meaning.proofs.Totals.{sum-ext}
 use Rattle.meaning.proofs.Sums.{column-sides}
-use Rattle.meaning.proofs.Bounds.{against-le}
+use Rattle.meaning.proofs.Bounds.{sums-bound}
 use Rattle.sums.proofs.Laws.{leaf-more}
 use Rattle.stated.specs.declared.ColumnAt.{ColumnAt}
 use Rattle.stated.specs.Stated.{StatedTally, Stands, againstOf}
@@ -24,25 +24,23 @@ use Rattle.stated.proofs.AtColumn.{against-at}
 abbrev pub weightAt : Matrix → List ℕ → ℕ → ℕ
 weightAt M a j = W M (statedDivision a) j false (statedHaplotypes a false j) + W M (statedDivision a) j true (statedHaplotypes a true j)
 
--- 1,024 reads of weight 255 at most
-pub weight-small : (M : Matrix) (a tally : List ℕ) → StatedTally M a tally → (j : ℕ) → weightAt M a j ≤ 261120
-weight-small M a tally told j =
-    let each : (r : ℕ) → r < count M → against (statedHaplotypes a (statedDivision a r) j) (at (read M r) j) ≤ 255 =
-    λ r l. le-trans (against-le (statedHaplotypes a (statedDivision a r) j) (at (read M r) j)) (told .light r j l) in
-    omega (arith, told .few-reads, column-sides M (statedDivision a) j (λ s. statedHaplotypes a s j), sum-bound (count M) 255 each)
+-- 12 reads of weight 65,535 at most
+pub weight-small : (M : Matrix) (a tally : List ℕ) → StatedTally M a tally → (j : ℕ) → j < M .columns → weightAt M a j ≤ 786420
+weight-small M a tally told j l =
+    omega (arith, told .thin j l, sums-bound M 65535 (told .light) (statedDivision a) j (statedHaplotypes a false j) (statedHaplotypes a true j))
 
 -- the columns before j are weighed
 pub record WeighedTo (M : Matrix) (a : List ℕ) (m total j : ℕ) : Type 0 where
   pub inside : j ≤ m
   pub total-is : total ≡ sumTo j (weightAt M a)
-  pub small : total ≤ j * 261120
+  pub small : total ≤ j * 786420
 
 module _ (M : Matrix) (a : List ℕ) (m : ℕ) where
   pub weighed-none : WeighedTo M a m 0 0
   unfolding sumTo
   weighed-none = record { inside = zero-le; total-is = refl; small = zero-le }
 
-  module _ (total j : ℕ) (w : WeighedTo M a m total j) (l : j < m) (c : ColumnAt) (h : Stands M a j c) (light : weightAt M a j ≤ 261120)
+  module _ (total j : ℕ) (w : WeighedTo M a m total j) (l : j < m) (c : ColumnAt) (h : Stands M a j c) (light : weightAt M a j ≤ 786420)
       (x y : ℕ) (first : x ≡ againstOf (c .first)) (second : y ≡ againstOf (c .second)) where
     column-is : x + y ≡ weightAt M a j
     column-is = ap₂ _+_ (first ∙ against-at M a j false (c .first) (h .first-stands)) (second ∙ against-at M a j true (c .second) (h .second-stands))

@@ -112,12 +112,12 @@ module _ (shape : Shape) (reads places lists : List ℕ) (ready : Ready shape re
           }
 
       pub fill-fits : (t : ℕ) → t ≡ entries M → (w : List (List ℕ)) (taken work : List ℕ) → shape .m * t ≤ length work
-          → LightPairs w p 255 → TakenFits M j taken
+          → LightPairs w p 65535 → TakenFits M j taken
           → ((p ≤ 12) × LightPairs w p 65535) × (Room turn p taken × (used p ≤ length (take (j * t + t - j * t) (drop (j * t) work))))
       fill-fits t e w taken work room light fits =
           let z = column-sizes shape reads places lists ready j t l e in
           let long : length (take (j * t + t - j * t) (drop (j * t) work)) ≡ t = length-take-le (j * t + t - j * t) (drop (j * t) work) (omega (arith, length-drop (j * t) work)) ∙ omega arith in (
-            (list-fits j l p q .0, λ i k x. le-trans (light i k x) (omega arith)),
+            (list-fits j l p q .0, light),
             (fill-room taken fits, subst (λ (x : ℕ). used p ≤ x) (sym long) (subst (λ (x : ℕ). used x ≤ t) (sym q) (z .fits))),
           )
 

@@ -21,13 +21,14 @@ use Rattle.meaning.specs.Rule.{leastAt, sharedReads, columnOf, ruleColumn}
 use Rattle.meaning.specs.Call.{over, laid}
 use Rattle.meaning.proofs.Totals.{min-below}
 use Rattle.meaning.proofs.Modes.{charge-local, charge-even, general-fair}
-use Rattle.meaning.proofs.Closing.{Placed, length-active, active-split}
+use Rattle.meaning.proofs.Closing.{Placed, active-split}
 use Rattle.meaning.proofs.Rooms.{used-room, length-column, length-columns, column-at, columns-part, laid-join, laid-front}
 use Rattle.meaning.proofs.Rule.{rule-first, rule-next}
-use Rattle.meaning.proofs.Bounds.{Bytes, Light, reads-light, entry-bound}
+use Rattle.meaning.proofs.Bounds.{Bytes, entry-bound}
 use Rattle.layout.specs.declared.Shape.{Shape}
 use Rattle.layout.specs.Reads.{matrixIn}
 use Rattle.layout.specs.Ready.{Ready}
+use Rattle.layout.proofs.Laws.{lawful-light, ready-thin}
 use Rattle.table.specs.Taken.{sharedBefore, TakenOver, TakenBefore, TakenFits, passedOver}
 use Rattle.table.proofs.Pass.{over-first, over-next}
 use Rattle.table.proofs.Sizes.{ready-placed, column-sizes}
@@ -76,37 +77,30 @@ pub first-fits : (M : Matrix) (taken : List ℕ) → 0 < length taken → getD t
 first-fits M taken room z =
     record { room = room; small = λ g l. let e : g ≡ 0 = omega arith in le-trans (le-of-eq (ap (λ (x : ℕ). getD taken x 0) e ∙ z)) zero-le }
 
--- every entry of reads that are ready is at most 3,133,440
+-- every entry of reads that are ready is at most 805,294,080
 module _ (shape : Shape) (reads places lists : List ℕ) (ready : Ready shape reads places lists) where
   abbrev M : Matrix
   M = matrixIn shape reads
 
-  thin : (j : ℕ) → j < shape .m → activeCount M j ≤ 12
-  thin j l = le-trans (le-of-eq (sym (length-active M (ready-placed shape reads places lists ready) j))) (ready .piled .few j l)
-
   module _ (bytes : Bytes reads) where
-    light : Light M 255
-    light r j =
-        let e : 256 ^ (shape .size - 1) - 1 ≡ 255 = ap (λ (v : ℕ). 256 ^ (v - 1) - 1) (ready .lawful .two) in
-        le-trans (reads-light (shape .size) (shape .n) reads bytes r j) (le-of-eq e)
-
-    entry-small : (j k : ℕ) → j < shape .m → entry charge M j k ≤ 3133440
+    entry-small : (j k : ℕ) → j < shape .m → entry charge M j k ≤ 805294080
     entry-small j k l =
-        let h : entry charge M j k ≤ suc j * (12 * 255) = entry-bound M 255 light general general-fair 12 thin j k l in
+        let h : entry charge M j k ≤ suc j * (12 * 65535) =
+        entry-bound M 65535 (lawful-light shape reads (ready .lawful) bytes) general general-fair 12 (ready-thin shape reads places lists ready) j k l in
         omega (arith, ready .lawful .few-columns)
 
-    column-small : (j : ℕ) → j < shape .m → (k : ℕ) → getD (column charge M j) k 0 ≤ 3133440
+    column-small : (j : ℕ) → j < shape .m → (k : ℕ) → getD (column charge M j) k 0 ≤ 805294080
     column-small j l k = go (decLe (suc k) (entries M))
       where
-        pick : (t : Bool) → cond t (entry charge M j k) 0 ≤ 3133440
+        pick : (t : Bool) → cond t (entry charge M j k) 0 ≤ 805294080
         pick true = entry-small j k l
         pick false = zero-le
 
-        go : Dec (k < entries M) → getD (column charge M j) k 0 ≤ 3133440
-        go (yes h) = subst (λ (x : ℕ). x ≤ 3133440) (sym (column-at charge M j k h)) (pick (ltb k (used (length (activeReads M j)))))
+        go : Dec (k < entries M) → getD (column charge M j) k 0 ≤ 805294080
+        go (yes h) = subst (λ (x : ℕ). x ≤ 805294080) (sym (column-at charge M j k h)) (pick (ltb k (used (length (activeReads M j)))))
         go (no h) =
             let n : length (column charge M j) ≡ entries M = length-column charge M j in
-            subst (λ (x : ℕ). x ≤ 3133440) (sym (List·getD-eq-default (column charge M j) 0 (omega arith))) zero-le
+            subst (λ (x : ℕ). x ≤ 805294080) (sym (List·getD-eq-default (column charge M j) 0 (omega arith))) zero-le
 
     -- and so is what the loop has written before column j
     pub before-small : (j : ℕ) → j < shape .m → (work room : List ℕ) → room ≡ over (columnsTo charge M j) work

@@ -17,7 +17,6 @@ use Rattle.meaning.specs.Charge.{Letter}
 use Rattle.meaning.specs.Refusals.{badCell}
 use Rattle.meaning.proofs.Lists.{length-run, getD-run}
 use Rattle.layout.specs.Places.{readFrom}
-use Rattle.layout.proofs.Fields.{byte-is}
 use Rattle.layout.proofs.Laws.{good}
 use Rattle.sums.specs.Sums.{sideOf}
 use Rattle.tally.specs.Tally.{unit, tallyOf, place, ReadAdded}
@@ -120,25 +119,20 @@ module _ (size from : ℕ) (cells : List ℕ) where
             List·getD-eq-default more hole (omega (arith, length-run 0 (i + 1) (cellAt size cells)))
             ∙ sym (List·getD-eq-default some hole (omega (arith, length-run 0 i (cellAt size cells))))
 
--- the bytes of a cell of two bytes are inside
-pub cell-inside : (size i n total : ℕ) → size ≡ 2 → i < n → total ≡ size * n → size * i + 1 < total
-cell-inside size i n total two l e = omega (arith, ap (λ (k : ℕ). k * i) two, ap (λ (k : ℕ). k * n) two)
-
 -- cell i of a read on a side is stored: v is added at place k
 pub record Stored (size : ℕ) (cells : List ℕ) (i from side k v : ℕ) : Type 0 where
-  pub two : size ≡ 2
   pub fine : badCell (cellAt size cells i) ≡ false
   pub small : side ≤ 1
   pub where-is : k ≡ 4 * (from + i) + 2 * side + getD cells (size * i) 0 % 2
-  pub what-is : v ≡ getD cells (size * i + 1) 0 + (1 - getD cells (size * i) 0 / 2) * unit
+  pub what-is : v ≡ bigEndian (size - 1) cells (size * i + 1) + (1 - getD cells (size * i) 0 / 2) * unit
 
 module _ (size : ℕ) (cells : List ℕ) (i : ℕ) where
-  -- its two bytes, and what they add
+  -- its letter, its weight, and what they add
   abbrev letter : ℕ
   letter = getD cells (size * i) 0
 
   abbrev weight : ℕ
-  weight = getD cells (size * i + 1) 0
+  weight = bigEndian (size - 1) cells (size * i + 1)
 
   abbrev adds : ℕ
   adds = weight + (1 - letter / 2) * unit
@@ -148,15 +142,9 @@ module _ (size : ℕ) (cells : List ℕ) (i : ℕ) where
   letter-known fine = good (cellAt size cells i) fine .letter-known
 
   -- the cell at its own letter
-  own : size ≡ 2 → badCell (cellAt size cells i) ≡ false → (l : Letter)
-      → cond (eqb (bit l) (letter % 2)) adds 0 ≡ tallyOf l (cellAt size cells i)
+  own : badCell (cellAt size cells i) ≡ false → (l : Letter) → cond (eqb (bit l) (letter % 2)) adds 0 ≡ tallyOf l (cellAt size cells i)
   unfolding cellAt
-  own two fine l =
-      let g = good (cellAt size cells i) fine in
-      let w : bigEndian (size - 1) cells (size * i + 1) ≡ weight =
-      ap (λ (n : ℕ). bigEndian (n - 1) cells (size * i + 1)) two ∙ byte-is cells (size * i + 1) in
-      cell-adds l letter weight (letter-known fine) (λ e. sym w ∙ g .hole-weightless e)
-      ∙ ap (λ (x : ℕ). tallyOf l (record { letter = letter; weight = x })) (sym w)
+  own fine l = cell-adds l letter weight (letter-known fine) (good (cellAt size cells i) fine .hole-weightless)
 
   module _ {from side k v : ℕ} (x : Stored size cells i from side k v) where
     -- the read by its first i cells, and with one more
@@ -176,7 +164,7 @@ module _ (size : ℕ) (cells : List ℕ) (i : ℕ) where
         let e : k ≡ 4 * (from + i) + 2 * bit t + letter % 2 = omega (arith, x .where-is) in
         let same : eqb (place (from + i) t l) k ≡ eqb (bit l) (letter % 2) =
         ap (λ (n : ℕ). eqb (place (from + i) t l) n) e ∙ same-place (4 * (from + i) + 2 * bit t) (bit l) (letter % 2) in
-        ap₂ (λ (b : Bool) (x : ℕ). cond b x 0) same (x .what-is) ∙ own (x .two) (x .fine) l
+        ap₂ (λ (b : Bool) (x : ℕ). cond b x 0) same (x .what-is) ∙ own (x .fine) l
 
     -- the read has one cell more
     gained : (j : ℕ) (s : Side) (l : Letter)

@@ -1,5 +1,5 @@
 -- The loop over the reads: one read more.
-use Prim.Native.Nat.{ℕ, _+_, _-_, _*_, _^_, _≤_, _<_}
+use Prim.Native.Nat.{ℕ, _+_, _*_, _≤_, _<_}
 use lib.Dec.{eqb, ltb}
 use lib.ListN.{length, getD}
 use mathlib.Core.Bool.{Bool, true, false, cond, Bool·beq}
@@ -15,11 +15,13 @@ use Rattle.meaning.specs.Division.{Side, Division}
 use Rattle.meaning.specs.Charge.{Letter}
 use Rattle.meaning.specs.Answer.{divisionOf}
 use Rattle.meaning.proofs.Totals.{sum-bound}
-use Rattle.meaning.proofs.Bounds.{Light, reads-light}
+use Rattle.meaning.proofs.Bounds.{Light, Bytes}
 use Rattle.meaning.proofs.Formed.{length-reads}
 use Rattle.layout.specs.declared.Shape.{Shape}
 use Rattle.layout.specs.Reads.{matrixIn, Lawful}
 use Rattle.layout.specs.Places.{startAt, firstAt, endAt, Noted}
+use Rattle.layout.specs.Lists.{Thin}
+use Rattle.layout.proofs.Laws.{lawful-light}
 use Rattle.layout.proofs.Cuts.{Cut, cut-noted}
 use Rattle.plain.proofs.Laws.{all-zero}
 use Rattle.tally.specs.Tally.{unit, tallyOf, talliedTo, place, Tallied, ReadAdded}
@@ -34,13 +36,6 @@ cleared old new e h =
 pub cut-read : {s : Shape} {reads places : List ℕ} → Lawful s reads → Noted s reads places → (r : ℕ) → r < s .n → (x from to : ℕ)
     → x ≡ startAt places r → from ≡ firstAt places r → to ≡ endAt places r → Cut s reads r x from to
 cut-read lawful noted r l x from to ex ef et = rw (ex, ef, et) (cut-noted lawful noted r l)
-
--- the weight of a cell of two bytes is a byte
-pub light : (s : Shape) (reads : List ℕ) → s .size ≡ 2 → ((i : ℕ) → getD reads i 0 < 256) → Light (matrixIn s reads) 255
-light s reads two byte r j =
-    let w : at (read (matrixIn s reads) r) j .weight ≤ 256 ^ (s .size - 1) - 1 =
-    reads-light (s .size) (s .n) reads (λ i. omega (arith, byte i)) r j in
-    subst (λ (n : ℕ). at (read (matrixIn s reads) r) j .weight ≤ 256 ^ (n - 1) - 1) two w
 
 -- the tally of the first r reads
 abbrev pub Upto : Matrix → Division → ℕ → List ℕ → Type 0
@@ -65,28 +60,29 @@ module _ (M : Matrix) (d : Division) where
       ∙ sym (tallied-more r j s l)
 
   -- 1,024 reads leave room
-  pub upto-small : Light M 255 → (r : ℕ) (t : List ℕ) → r ≤ 1024 → Upto M d r t
-      → (j : ℕ) (s : Side) (l : Letter) → getD t (place j s l) 0 ≤ 1000000000
+  pub upto-small : Light M 65535 → (r : ℕ) (t : List ℕ) → r ≤ 1024 → Upto M d r t
+      → (j : ℕ) (s : Side) (l : Letter) → getD t (place j s l) 0 ≤ 2000000000
   unfolding talliedTo tallyOf
-  upto-small thin r t le h j s l =
-      let bound : talliedTo M d r j s l ≤ r * 262399 =
-      sum-bound r 262399 {f = λ q. cond (Bool·beq (d q) s) (tallyOf l (at (read M q) j)) 0}
-      (λ q k. go (Bool·beq (d q) s) (eqb (at (read M q) j .letter) (bit l)) (at (read M q) j .weight) (thin q j)) in
+  upto-small light r t le h j s l =
+      let bound : talliedTo M d r j s l ≤ r * 1114111 =
+      sum-bound r 1114111 {f = λ q. cond (Bool·beq (d q) s) (tallyOf l (at (read M q) j)) 0}
+      (λ q k. go (Bool·beq (d q) s) (eqb (at (read M q) j .letter) (bit l)) (at (read M q) j .weight) (light q j)) in
       omega (arith, h j s l, bound)
     where
-      go : (t e : Bool) (w : ℕ) → w ≤ 255 → cond t (cond e (unit + w) 0) 0 ≤ 262399
+      go : (t e : Bool) (w : ℕ) → w ≤ 65535 → cond t (cond e (unit + w) 0) 0 ≤ 1114111
       go true true w k = omega arith
       go true false w k = omega arith
       go false e w k = omega arith
 
 -- all reads
-pub tallied-all : (s : Shape) (reads sides t : List ℕ) → Lawful s reads → ((i : ℕ) → getD reads i 0 < 256) → 4 * s .m ≤ length t
+pub tallied-all : (s : Shape) (reads sides t : List ℕ) → Lawful s reads → Bytes reads → Thin (matrixIn s reads) → 4 * s .m ≤ length t
     → (r : ℕ) → r ≡ s .n → Upto (matrixIn s reads) (divisionOf sides) r t → Tallied (matrixIn s reads) sides t
-tallied-all s reads sides t lawful byte room r e h =
+tallied-all s reads sides t lawful bytes thin room r e h =
     let all : count (matrixIn s reads) ≡ s .n = length-reads (s .size) (s .n) reads in
     record {
       few-reads = omega (arith, all, lawful .few-reads);
-      light = λ q j l. light s reads (lawful .two) byte q j;
+      thin = thin;
+      light = lawful-light s reads lawful bytes;
       room = room;
       each = λ j l. subst (λ (n : ℕ). Upto (matrixIn s reads) (divisionOf sides) n t) (e ∙ sym all) h j;
     }

@@ -11,10 +11,12 @@ use Rattle.meaning.specs.Active.{count, read, at}
 use Rattle.meaning.specs.Division.{Side, Division}
 use Rattle.meaning.specs.Charge.{Letter}
 use Rattle.meaning.specs.Answer.{divisionOf}
+use Rattle.meaning.proofs.Bounds.{Light}
+use Rattle.layout.specs.Lists.{Thin}
 
--- 2^18, above the weight of any 1,024 cells
+-- 2^20, above the weight of any 12 cells
 abbrev pub unit : ℕ
-unit = 262144
+unit = 1048576
 
 -- what a cell adds to the tally of letter l: if that is its letter, one entry and its weight
 unfoldable pub tallyOf : Letter → Cell → ℕ
@@ -28,10 +30,11 @@ talliedTo M d r j s l = sumTo r (λ q. cond (Bool·beq (d q) s) (tallyOf l (at (
 abbrev pub place : ℕ → Side → Letter → ℕ
 place j s l = 4 * j + 2 * bit s + bit l
 
--- the tally for sides of a matrix of at most 1,024 reads, whose weights are bytes
+-- the tally for sides of a matrix of at most 1,024 reads, 12 of them at a column, whose weights have two bytes at most
 pub record Tallied (M : Matrix) (sides tally : List ℕ) : Type 0 where
   pub few-reads : count M ≤ 1024
-  pub light : (r j : ℕ) → r < count M → at (read M r) j .weight ≤ 255
+  pub thin : Thin M
+  pub light : Light M 65535
   pub room : 4 * M .columns ≤ length tally
   pub each : (j : ℕ) → j < M .columns → (s : Side) (l : Letter)
       → getD tally (place j s l) 0 ≡ talliedTo M (divisionOf sides) (count M) j s l

@@ -7,25 +7,26 @@ ghost use Rattle.meaning.specs.Block.{cellAt};
 ghost use Rattle.meaning.specs.Division.{Side};
 ghost use Rattle.meaning.specs.Charge.{Letter};
 ghost use Rattle.meaning.specs.Refusals.{badCell};
-ghost use Rattle.layout.specs.Reads.{matrixIn, Lawful};
+ghost use Rattle.layout.specs.Reads.{CellSize, matrixIn, Lawful};
+ghost use Rattle.layout.specs.Lists.{Thin};
 ghost use Rattle.layout.specs.Places.{Noted, readFrom};
 ghost use Rattle.sums.specs.Sums.{sideOf};
 ghost use Rattle.tally.specs.Tally.{unit, place, Tallied, ReadAdded};
 
 // What a cell adds to its tally: one entry and its weight. A hole has no weight, and adds nothing.
-fn added(letter: usize, weight: u8) -> u32
-    requires { ⌜ letter ≤ 2 ⌝ }
+fn added(letter: usize, weight: u32) -> u32
+    requires { ⌜ (letter ≤ 2) × (weight ≤ 65535) ⌝ }
     ensures { λ r. ⌜ r ≡ weight + (1 - letter / 2) * unit ⌝ }
 {
-    plain::weight(weight) + ((1 - letter / 2) as u32) * 262144
+    weight + ((1 - letter / 2) as u32) * 1048576
 }
 
 // The cells of one read, from column `from` to the column before `to`.
 fn tally_read(cells: &[u8], size: usize, from: usize, to: usize, side: usize, tally: &mut [u32])
-    requires { ⌜ (size ≡ 2) × (from ≤ to) × (length (now cells) ≡ size * (to - from))
+    requires { ⌜ CellSize size × (from ≤ to) × (length (now cells) ≡ size * (to - from))
         × (4 * to ≤ length (now tally)) × (side ≤ 1) ⌝ }
     requires { ⌜ ((i : ℕ) → i < to - from → badCell (cellAt size (now cells) i) ≡ false) ⌝ }
-    requires { ⌜ ((j : ℕ) (s : Side) (l : Letter) → getD (now tally) (place j s l) 0 ≤ 1000000000) ⌝ }
+    requires { ⌜ ((j : ℕ) (s : Side) (l : Letter) → getD (now tally) (place j s l) 0 ≤ 2000000000) ⌝ }
     ensures { λ _. ⌜ ReadAdded (readFrom size from (to - from) (now (cells .entry))) (sideOf side)
         (now (tally .entry)) (now (tally .exit)) ⌝ }
 {
@@ -33,8 +34,9 @@ fn tally_read(cells: &[u8], size: usize, from: usize, to: usize, side: usize, ta
     let mut at = 4 * from + 2 * side;
     let mut i: usize = 0;
     while i < c {
-        let letter = plain::wide(cells[size * i]);
-        let v = added(letter, cells[size * i + 1]);
+        let cell = size * i;
+        let letter = plain::wide(cells[cell]);
+        let v = added(letter, layout::weight_at(cells, size, cell));
         let k = at + letter % 2;
         tally[k] = tally[k] + v;
         at += 4;
@@ -49,9 +51,10 @@ fn side_of(b: u8) -> usize
     if b == 1 { 1 } else { 0 }
 }
 
-// The cells of all reads, each on its side. The tally is cleared first.
+// The cells of all reads, each on its side; no column has more than 12. The tally is cleared first.
 pub fn tally(shape: layout::Shape, reads: &[u8], places: &[u32], sides: &[u8], tally: &mut [u32])
     requires { ⌜ Lawful shape (now reads) × Noted shape (now reads) (now places) ⌝ }
+    requires { ⌜ Thin (matrixIn shape (now reads)) ⌝ }
     requires { ⌜ (shape .n ≤ length (now sides)) × (4 * shape .m ≤ length (now tally)) ⌝ }
     ensures { λ _. ⌜ Tallied (matrixIn shape (now (reads .entry))) (now (sides .entry)) (now (tally .exit)) ⌝ }
 {

@@ -14,10 +14,10 @@ use Rattle.meaning.specs.Answer.{answerBytes, sidesOf, lettersOf, answer}
 use Rattle.meaning.specs.Call.{Result, accepts, callWith}
 use Rattle.meaning.proofs.Modes.{Fair}
 use Rattle.meaning.proofs.Formed.{Accepted, matrix-reads, matrix-columns}
-use Rattle.meaning.proofs.Bounds.{Bytes}
+use Rattle.meaning.proofs.Bounds.{Bytes, cost-fits}
 use Rattle.meaning.proofs.AnswerBytes.{cost-is, flips-is, reads-is, columns-is, block-length, sides-part, hap1-part, hap2-part, length-sides, length-letters}
 use Rattle.meaning.proofs.Demand1.{demand1-accepted}
-use Rattle.meaning.proofs.Decoded.{flips-limit, cost-fits}
+use Rattle.meaning.proofs.Decoded.{flips-limit}
 use Rattle.lines.specs.Line.{decimal, mark, line, sidesWord, hap1Word, hap2Word, sidesText}
 use Rattle.text.specs.Text.{costWord, flipsWord, answerText, textOf}
 use Rattle.text.specs.Put.{Whole}
@@ -84,11 +84,11 @@ module _ (mode : Mode) (newest : ℕ) (b work out : List ℕ) (a : Accepted newe
       few-sides few-letters same-letters)
 
   -- the five lines of its answer are printed: cost and flips fit their fields
-  pub accepted-lines : Fair mode → newest ≤ 2 → Bytes b → let r = callWith mode newest b work out in textOf (r .number) (r .second) (r .out)
+  pub accepted-lines : Fair mode → Bytes b → let r = callWith mode newest b work out in textOf (r .number) (r .second) (r .out)
       ≡ fiveLines (leastCost (chargeIn mode) M) (flips M d (haplotypes mode M d)) (sidesOf M d) (lettersOf mode M d false) (lettersOf mode M d true)
   unfolding accepts answer
-  accepted-lines fair known bytes =
+  accepted-lines fair bytes =
       let f : flips M d (haplotypes mode M d) ≤ 12288 = flips-limit newest b (length work) (length out) a d (haplotypes mode M d) in
       ap (λ (r : Result). textOf (r .number) (r .second) (r .out)) (demand1-accepted mode newest b work out a)
       ∙ accepted-text (leastCost (chargeIn mode) M) (flips M d (haplotypes mode M d)) (sidesOf M d) (lettersOf mode M d false) (lettersOf mode M d true) rest
-      few-sides few-letters same-letters (leastCost (chargeIn mode) M) (cost-fits mode fair newest known b bytes (length work) (length out) a) (omega arith)
+      few-sides few-letters same-letters (leastCost (chargeIn mode) M) (cost-fits mode fair newest b (length work) (length out) bytes a) (omega arith)

@@ -4,7 +4,7 @@ use mathlib.Core.Path.{_≡_, sym, ap, _∙_}
 use mathlib.Core.List.{List}
 use native.Mathlib.Omega.{arith}
 use lib.ListN.{length, take, drop}
-use Rattle.meaning.specs.Block.{Matrix}
+use Rattle.meaning.specs.Block.{Matrix, latest}
 use Rattle.meaning.specs.Letters.{general}
 use Rattle.meaning.specs.Refusals.{Numbers, blockRefusal}
 use Rattle.meaning.specs.Call.{refuses, callOn, call}
@@ -21,17 +21,17 @@ refused-number : (x : Numbers) (n s : ℕ) → record { number = n; second = s }
 refused-number x n s e l z = let q : n ≡ 0 = ap (λ (y : Numbers). y .number) e ∙ z in omega arith
 
 -- a refusal of the block is the call's, and the judging's
-pub refused-call : (b work out : List ℕ) (n s : ℕ) → record { number = n; second = s } ≡ blockRefusal 1 b → 0 < n
+pub refused-call : (b work out : List ℕ) (n s : ℕ) → record { number = n; second = s } ≡ blockRefusal latest b → 0 < n
     → record { number = n; second = s; work = work; out = out } ≡ call b work out
 unfolding call refuses
 refused-call b work out n s e l =
-    ap (λ (x : Numbers). refuses x work out) e ∙ sym (call-block general 1 b work out (refused-number (blockRefusal 1 b) n s e l))
+    ap (λ (x : Numbers). refuses x work out) e ∙ sym (call-block general latest b work out (refused-number (blockRefusal latest b) n s e l))
 
-pub refused-judging : (b a work : List ℕ) (n s : ℕ) → record { number = n; second = s } ≡ blockRefusal 1 b → 0 < n
+pub refused-judging : (b a work : List ℕ) (n s : ℕ) → record { number = n; second = s } ≡ blockRefusal latest b → 0 < n
     → record { number = n; second = s; work = work } ≡ judging b a work
 unfolding judging rejects
 refused-judging b a work n s e l =
-    ap (λ (x : Numbers). rejects x work) e ∙ sym (judging-block 1 b a work (refused-number (blockRefusal 1 b) n s e l))
+    ap (λ (x : Numbers). rejects x work) e ∙ sym (judging-block latest b a work (refused-number (blockRefusal latest b) n s e l))
 
 -- behind its nine bytes a block that passes is its reads
 module _ (b : List ℕ) (s : Shape) (p : Passes b s) where
@@ -43,11 +43,11 @@ module _ (b : List ℕ) (s : Shape) (p : Passes b s) where
   passed-call work out =
       ap (λ (r : List ℕ). callOn general (matrixIn s r) work out) (part-is b)
       ∙ ap (λ (M : Matrix). callOn general M work out) (p .matrix-is)
-      ∙ sym (call-on general 1 b work out (p .formed))
+      ∙ sym (call-on general latest b work out (p .formed))
 
   pub passed-judging : (a work : List ℕ) → judgingOn (matrixIn s lent) a work ≡ judging b a work
   unfolding judging
   passed-judging a work =
       ap (λ (r : List ℕ). judgingOn (matrixIn s r) a work) (part-is b)
       ∙ ap (λ (M : Matrix). judgingOn M a work) (p .matrix-is)
-      ∙ sym (judging-on 1 b a work (p .formed))
+      ∙ sym (judging-on latest b a work (p .formed))

@@ -9,6 +9,7 @@ ghost use Rattle.meaning.specs.Answer.{answer};
 ghost use Rattle.meaning.specs.Call.{over};
 ghost use Rattle.layout.specs.Reads.{matrixIn, Lawful};
 ghost use Rattle.layout.specs.Places.{Noted};
+ghost use Rattle.layout.specs.Lists.{Thin};
 ghost use Rattle.layout.specs.Ready.{Ready};
 ghost use Rattle.written.specs.Output.{divisionIn, flipsOf, withLetters, RightColumns};
 
@@ -21,6 +22,7 @@ fn write_letters(
     out: &mut [u8],
 ) -> u32
     requires { ⌜ Lawful shape (now reads) × Noted shape (now reads) (now places) ⌝ }
+    requires { ⌜ Thin (matrixIn shape (now reads)) ⌝ }
     requires { ⌜ (17 + shape .n + 2 * shape .m ≤ length (now out)) × (4 * shape .m ≤ length (now tally)) ⌝ }
     ensures { λ r. ⌜ r ≡ flipsOf (matrixIn shape (now (reads .entry))) (divisionIn (shape .n) (now (out .entry))) ⌝ }
     ensures { λ _. ⌜ now (out .exit)

@@ -20,7 +20,7 @@ use Rattle.cells.proofs.prepare.Tie as tie
 
 abbrev Inv-loop : tie.InvT-loop
 Inv-loop shape reads places list p j w₀ turn₀ seen₀ head₀ i₀ w turn seen head i =
-    (i ≤ p) × (length w ≡ 12) × PairsTo w i (λ k. pairOf (at (read (matrixIn shape reads) (getD list k 0)) j)) 255
+    (i ≤ p) × (length w ≡ 12) × PairsTo w i (λ k. pairOf (at (read (matrixIn shape reads) (getD list k 0)) j)) 65535
     × Masks (startsBefore (firstAt places) list j) turn seen head i
 
 abbrev μ-loop : tie.MeasureT-loop
@@ -94,7 +94,7 @@ weights-requires c κs =
     let e = c .before .before .before in
     let l = e .before .before .before .before .before .before in
     let k = taken-cell (here e) (c .cell-of .result) (c .cell-of .ensures) in
-    (l .before .before .before .before .pre .0 .lawful .two, k .0, k .1)
+    (l .before .before .before .before .pre .0 .lawful .cell, k .0, k .1)
 
 mul-x : tie.Need-mul-x Inv-loop μ-loop
 mul-x c = search needs

@@ -13,28 +13,22 @@ shared-slice-read-weight c = search needs
 weight-requires : tie.Need-weight-requires
 weight-requires c κs = search needs
 
-add-weight : tie.Need-add-weight
-add-weight c = search needs
-
-shared-slice-read-weight-2 : tie.Need-shared-slice-read-weight-2
-shared-slice-read-weight-2 c = search needs
-
-weight-requires-2 : tie.Need-weight-requires-2
-weight-requires-2 c κs = search needs
+weight-at-requires : tie.Need-weight-at-requires
+weight-at-requires c κs = search needs
 
 mul-y : tie.Need-mul-y
-mul-y c = omega (arith, times-digit (c .weight2 .result) (c .before .before .weight .result))
+mul-y c = omega (arith, times-digit (c .weight-at .result) (c .before .weight .result), c .weight-at .ensures .1)
 
-sub-t12 : tie.Need-sub-t12
-sub-t12 c = times-digit _ _
+sub-t10 : tie.Need-sub-t10
+sub-t10 c = times-digit _ _
 
 returns : tie.Need-returns
 returns c =
-    let s = c .before .before .before .before .before in
+    let s = c .before .before .before .before in
     let a = s .args in
-    let letter = c .before .before .weight in (
-      pair-is (a .cells .now) (a .size) (a .i) _ _ (s .pre .0) (s .pre .2) (letter .ensures .0) (c .weight2 .ensures .0),
-      pair-light (c .weight2 .result) (letter .result) (c .weight2 .ensures .1),
+    let letter = c .before .weight in (
+      pair-is (a .cells .now) (a .size) (a .i) _ _ (s .pre .2) (letter .ensures .0) (c .weight-at .ensures .0),
+      pair-light 65535 (c .weight-at .result) (letter .result) (c .weight-at .ensures .1),
     )
 
 pub weights-spec : {M : Type 1} → statement M
@@ -44,9 +38,7 @@ weights-spec =
     mul-at
     shared-slice-read-weight
     weight-requires
-    add-weight
-    shared-slice-read-weight-2
-    weight-requires-2
+    weight-at-requires
     mul-y
-    sub-t12
+    sub-t10
     returns)

@@ -2,24 +2,29 @@
 use borrow.Author.Needs.{needs}
 use native.Mathlib.Omega.{arith}
 use mathlib.Core.List.{List}
-use mathlib.Core.Path.{_≡_, refl, sym, ap, _∙_}
+use mathlib.Core.Logic.{_≢_}
+use mathlib.Core.Path.{_≡_, sym, _∙_, subst}
 use Prim.Native.Nat.{ℕ, _+_, _-_, _≤_}
 use lib.ListN.{length}
 use Rattle.meaning.specs.Block.{versionField, sizeField}
-use Rattle.header.specs.Header.{Sized}
-use Rattle.header.proofs.HeaderChecks.{is-short, is-version, is-size, no-column, many-columns, many-reads, is-sized}
+use Rattle.layout.specs.Reads.{CellSize}
+use Rattle.header.specs.Header.{sizeOf, Sized}
+use Rattle.header.proofs.HeaderChecks.{is-short, is-version, is-size, no-column, many-columns, many-reads, is-sized, is-cell-size}
 use Rattle.header.proofs.check_header.Statement.{statement}
 use Rattle.header.proofs.check_header.Tie as tie
 
 -- behind the checks 1 to 3
 abbrev bytes : (c : tie.After-word-at2) → List ℕ
-bytes c = c .before .before .before .before .before .before .before .before .args .block .now
+bytes c = c .before .before .before .before .before .before .before .before .before .args .block .now
 
 nine : (c : tie.After-word-at2) → 9 ≤ length (bytes c)
-nine c = c .before .before .before .before .before .before .if1 .left
+nine c = c .before .before .before .before .before .before .before .if1 .left
 
-version : (c : tie.After-word-at2) → versionField (bytes c) ≡ 1
-version c = c .before .before .before .before .if2 .left
+size-of : (c : tie.After-word-at2) → c .before .before .before .before .before .cell-size .result ≡ sizeOf (versionField (bytes c))
+size-of c = c .before .before .before .before .before .cell-size .ensures
+
+version : (c : tie.After-word-at2) → sizeOf (versionField (bytes c)) ≢ 0
+version c e = c .before .before .before .before .if2 .left (size-of c ∙ e)
 
 size : (c : tie.After-word-at2) → sizeField (bytes c) ≡ length (bytes c) - 5
 size c = sym (c .before .before .before .long-at .ensures .0) ∙ c .before .before .if3 .left
@@ -27,11 +32,14 @@ size c = sym (c .before .before .before .long-at .ensures .0) ∙ c .before .bef
 returns : tie.Need-returns
 returns c = (is-short _ (c .if1 .taken), tt)
 
-shared-slice-read-if2 : tie.Need-shared-slice-read-if2
-shared-slice-read-if2 c = search needs
+shared-slice-read-cell-size : tie.Need-shared-slice-read-cell-size
+shared-slice-read-cell-size c = search needs
+
+cell-size-requires : tie.Need-cell-size-requires
+cell-size-requires c κs = search needs
 
 returns-2 : tie.Need-returns-2
-returns-2 c = (is-version _ (c .before .before .if1 .left) (c .if2 .taken), tt)
+returns-2 c = (is-version _ (c .before .before .before .if1 .left) (sym (c .before .cell-size .ensures) ∙ c .if2 .taken), tt)
 
 long-at-requires : tie.Need-long-at-requires
 long-at-requires c κs = search needs
@@ -42,7 +50,7 @@ sub-if3 c = search needs
 returns-3 : tie.Need-returns-3
 returns-3 c =
     let w = c .before .before in
-    (is-size _ (w .before .before .if1 .left) (w .if2 .left) (λ q. c .if3 .taken (c .before .long-at .ensures .0 ∙ q)), tt)
+    (is-size _ (w .before .before .before .if1 .left) (λ e. w .if2 .left (w .before .cell-size .ensures ∙ e)) (λ q. c .if3 .taken (c .before .long-at .ensures .0 ∙ q)), tt)
 
 word-at-requires : tie.Need-word-at-requires
 word-at-requires c κs = search needs
@@ -62,12 +70,12 @@ returns-6 c = let w = c .before .before .before in (many-reads _ (nine w) (versi
 returns-7 : tie.Need-returns-7
 returns-7 c =
     let w = c .before .before .before in
-    let s : Sized (bytes w) (record { size = 2; m = w .before .word-at .result; n = w .word-at2 .result }) = record {
+    let s : Sized (bytes w) (record { size = w .before .before .before .before .before .cell-size .result; m = w .before .word-at .result; n = w .word-at2 .result }) = record {
       nine = nine w;
-      cell = ap (λ (v : ℕ). 1 + v) (sym (version w));
+      size-is = size-of w ∙ is-cell-size (bytes w) (version w) .0;
       columns = w .before .word-at .ensures .0;
       reads = w .word-at2 .ensures .0;
-      two = refl;
+      cell = subst CellSize (sym (size-of w)) (is-cell-size (bytes w) (version w) .1, is-cell-size (bytes w) (version w) .2);
       some-column = omega arith;
       few-columns = omega arith;
       few-reads = omega arith;
@@ -79,7 +87,8 @@ check-header-spec =
     tie.close
     (tie.spec
     returns
-    shared-slice-read-if2
+    shared-slice-read-cell-size
+    cell-size-requires
     returns-2
     long-at-requires
     sub-if3

@@ -15,32 +15,29 @@ shared-slice-read-letter : tie.Need-shared-slice-read-letter
 shared-slice-read-letter c = search needs
 
 -- the letter that is neither below nor above 2
-hole : (c : tie.Else2) → let a = c .before .before .before .args in getD (a .cells .now) (a .size * a .i) 0 ≡ 2
+hole : (c : tie.Else2) → let a = c .before .before .before .before .args in getD (a .cells .now) (a .size * a .i) 0 ≡ 2
 hole c = omega arith
 
 returns : tie.Need-returns
-returns c = is-letter _ _ (c .before .before .args .i) (c .if1 .taken)
+returns c = is-letter _ _ (c .before .before .before .args .i) (c .if1 .taken)
 
 returns-2 : tie.Need-returns-2
-returns-2 c = is-above _ _ (c .before .before .before .args .i) (c .if2 .taken)
+returns-2 c = is-above _ _ (c .before .before .before .before .args .i) (c .if2 .taken)
 
-add-if3 : tie.Need-add-if3
-add-if3 c = search needs
-
-shared-slice-read-if3 : tie.Need-shared-slice-read-if3
-shared-slice-read-if3 c = search needs
+weight-at-requires : tie.Need-weight-at-requires
+weight-at-requires c κs = search needs
 
 returns-3 : tie.Need-returns-3
 returns-3 c =
     let h = c .before .before in
-    let s = h .before .before .before in
-    is-weighted _ _ (s .args .i) (s .pre .0) (hole h) (c .if3 .taken)
+    let s = h .before .before .before .before in
+    is-weighted _ _ (s .args .i) (hole h) _ (c .before .weight-at .ensures .0) (c .if3 .taken)
 
 returns-4 : tie.Need-returns-4
 returns-4 c =
     let h = c .before .before .before in
-    let s = h .before .before .before in
-    is-first _ _ (s .args .i) (s .pre .0) (hole h) (c .before .if3 .left) (c .if4 .taken)
+    let s = h .before .before .before .before in
+    is-first _ _ (s .args .i) (hole h) _ (c .before .before .weight-at .ensures .0) (c .before .if3 .left) (c .if4 .taken)
 
 add-result : tie.Need-add-result
 add-result c = search needs
@@ -48,8 +45,8 @@ add-result c = search needs
 returns-5 : tie.Need-returns-5
 returns-5 c =
     let h = c .before .before .before in
-    let s = h .before .before .before in
-    is-last _ _ (s .args .i) (s .pre .0) (hole h) (c .before .if3 .left) (c .if4 .left)
+    let s = h .before .before .before .before in
+    is-last _ _ (s .args .i) (hole h) _ (c .before .before .weight-at .ensures .0) (c .before .if3 .left) (c .if4 .left)
 
 pub cell-bad-spec : {M : Type 1} → statement M
 cell-bad-spec =
@@ -59,8 +56,7 @@ cell-bad-spec =
     shared-slice-read-letter
     returns
     returns-2
-    add-if3
-    shared-slice-read-if3
+    weight-at-requires
     returns-3
     returns-4
     add-result

@@ -3,11 +3,12 @@ use borrow.Author.Needs.{needs}
 use native.Mathlib.Omega.{arith}
 use mathlib.Core.Bool.{false}
 use mathlib.Core.List.{List}
-use mathlib.Core.Path.{_≡_, sym, ap, _∙_}
+use mathlib.Core.Path.{_≡_, sym, ap, _∙_, subst}
 use Prim.Native.Nat.{ℕ, _-_, _≤_, _<_}
 use lib.ListN.{length, drop}
 use Rattle.meaning.specs.Numbers.{anyTo}
 use Rattle.layout.specs.declared.Shape.{Shape}
+use Rattle.layout.specs.Reads.{CellSize}
 use Rattle.layout.proofs.Tests.{none-more}
 use Rattle.reads.specs.Search.{headNumber, headFault, CellsLie}
 use Rattle.reads.specs.Cells.{faultyCell}
@@ -38,11 +39,11 @@ bytes c = c .before .before .before .before .before .before .before .args .reads
 abbrev start : (c : tie.After-h Inv-loop μ-loop Inv-reads μ-reads) → ℕ
 start c = c .before .before .before .before .before .reads .at
 
-two : (c : tie.After-h Inv-loop μ-loop Inv-reads μ-reads) → shape-of c .size ≡ 2
-two c = c .before .before .before .before .before .before .before .pre .0
+sized : (c : tie.After-h Inv-loop μ-loop Inv-reads μ-reads) → CellSize (shape-of c .size)
+sized c = c .before .before .before .before .before .before .before .pre .0
 
 some : (c : tie.After-h Inv-loop μ-loop Inv-reads μ-reads) → 0 < shape-of c .size
-some c = omega (arith, two c)
+some c = omega (arith, sized c .0)
 
 passes : (c : tie.After-h Inv-loop μ-loop Inv-reads μ-reads) → headFault (shape-of c .size) (shape-of c .m) (drop (start c) (bytes c)) ≡ 0
 passes c = sym (c .before .before .read-head .ensures .0) ∙ ap headNumber (c .h .given .1)
@@ -75,18 +76,22 @@ part-cells-start c = omega (arith, lies (c .before))
 part-cells-end : tie.Need-part-cells-end Inv-loop μ-loop Inv-reads μ-reads
 part-cells-end c = omega (arith, lies (c .before))
 
-div-count : tie.Need-div-count Inv-loop μ-loop Inv-reads μ-reads
-div-count c = search needs
+cells-in-requires : tie.Need-cells-in-requires Inv-loop μ-loop Inv-reads μ-reads
+cells-in-requires c κs = sized (c .before .before)
 
 loop-holds : tie.Need-loop-holds Inv-loop μ-loop Inv-reads μ-reads
 unfolding anyTo
 loop-holds c = search needs
 
 cell-bad-requires : tie.Need-cell-bad-requires Inv-loop μ-loop Inv-reads μ-reads
-cell-bad-requires c κs = let e = two (c .before .before .before .before) in (e, cell-inside _ _ _ e (c .loop-test .taken))
+cell-bad-requires c κs =
+    let below = subst (λ (n : ℕ). c .before .loop .i < n) (c .before .before .cells-in .ensures) (c .loop-test .taken) in
+    (sized (c .before .before .before .before .before), cell-inside _ _ _ below)
 
 add-i : tie.Need-add-i Inv-loop μ-loop Inv-reads μ-reads
-add-i c = omega (arith, cell-below _ _ _ (c .before .before .loop-test .taken))
+add-i c =
+    let below = subst (λ (n : ℕ). c .before .before .before .loop .i < n) (c .before .before .before .before .cells-in .ensures) (c .before .before .loop-test .taken) in
+    omega (arith, cell-below _ _ _ below)
 
 loop-less : tie.Need-loop-less Inv-loop μ-loop Inv-reads μ-reads
 loop-less c = search needs
@@ -104,10 +109,13 @@ reads-less c = search needs
 
 reads-again : tie.Need-reads-again Inv-loop μ-loop Inv-reads μ-reads
 reads-again c =
-    let h = c .before .before .before .before in
+    let h = c .before .before .before .before .before in
     let w = h .before .before .before .before .before .reads in
     let l = c .before .loop in
-    let e = sound-read _ (some h) _ (w .at) _ _ (lies h) _ (passes h) (l .i) (l .inv .0) (c .loop-test .left) (l .inv .1) in
+    let count = c .before .before .cells-in .ensures in
+    let most = subst (λ (n : ℕ). l .i ≤ n) count (l .inv .0) in
+    let all = subst (λ (n : ℕ). n ≤ l .i) count (c .loop-test .left) in
+    let e = sound-read _ (some h) _ (w .at) _ _ (lies h) _ (passes h) (l .i) most all (l .inv .1) in
     (omega (arith, lies h), omega arith, left-on _ _ (w .at) (w .r) (w .inv .2) _ (h .before .before .before .if1 .left) e (lies h .ends))
 
 returns : tie.Need-returns Inv-loop μ-loop Inv-reads μ-reads
@@ -131,12 +139,13 @@ returns-3 c =
 
 returns-4 : tie.Need-returns-4 Inv-loop μ-loop Inv-reads μ-reads
 returns-4 c =
-    let h = c .before .before .before .before .before .before in
+    let h = c .before .before .before .before .before .before .before in
     let w = h .before .before .before .before .before .reads in
     let l = h .before .before .before .if1 .left in
     let i = c .before .before .before .loop .i in
+    let below = subst (λ (n : ℕ). i < n) (c .before .before .before .before .cells-in .ensures) (c .before .before .loop-test .taken) in
     let f = sym (c .before .cell-bad .ensures) ∙ c .if2 .taken in
-    let e = faulty-read _ (some h) _ (w .at) _ _ (lies h) _ (passes h) i (c .before .before .loop-test .taken) f in
+    let e = faulty-read _ (some h) _ (w .at) _ _ (lies h) _ (passes h) i below f in
     (left-stop _ _ (w .at) (w .r) (w .inv .2) 7 l e (omega arith), l)
 
 pub first-fault-spec : {M : Type 1} → statement M
@@ -155,7 +164,7 @@ first-fault-spec =
     sub-cells
     part-cells-start
     part-cells-end
-    div-count
+    cells-in-requires
     loop-holds
     cell-bad-requires
     add-i

@@ -52,20 +52,26 @@ add-word-at c = omega (arith, here-is (c .before))
 word-at-requires-2 : tie.Need-word-at-requires-2 Inv-loop μ-loop
 word-at-requires-2 c κs = omega (arith, here-is (c .before))
 
+sub-cells-in : tie.Need-sub-cells-in Inv-loop μ-loop
+sub-cells-in c = omega (arith, here-is (c .before .before))
+
+cells-in-requires : tie.Need-cells-in-requires Inv-loop μ-loop
+cells-in-requires c κs = c .before .before .before .before .before .before .before .pre .0 .cell
+
 mul-k : tie.Need-mul-k Inv-loop μ-loop
-mul-k c = omega (arith, here-is (c .before .before))
+mul-k c = omega (arith, here-is (c .before .before .before))
 
 add-places : tie.Need-add-places Inv-loop μ-loop
-add-places c = omega (arith, here-is (c .before .before))
+add-places c = omega (arith, here-is (c .before .before .before))
 
 cast-places : tie.Need-cast-places Inv-loop μ-loop
-cast-places c = omega (arith, here-is (c .before .before))
+cast-places c = omega (arith, here-is (c .before .before .before))
 
 mul-places : tie.Need-mul-places Inv-loop μ-loop
 mul-places c = omega arith
 
 slice-write-places : tie.Need-slice-write-places Inv-loop μ-loop
-slice-write-places c = omega (arith, room (c .before .before))
+slice-write-places c = omega (arith, room (c .before .before .before))
 
 cast-places-2 : tie.Need-cast-places-2 Inv-loop μ-loop
 cast-places-2 c = omega arith
@@ -77,19 +83,13 @@ mul-places-2 : tie.Need-mul-places-2 Inv-loop μ-loop
 mul-places-2 c = omega arith
 
 slice-write-places-2 : tie.Need-slice-write-places-2 Inv-loop μ-loop
-slice-write-places-2 c = lt-length-set (c .before .before .before .before .loop .places) _ _ (omega (arith, room (c .before .before)))
-
-sub-places : tie.Need-sub-places Inv-loop μ-loop
-sub-places c = omega (arith, here-is (c .before .before))
-
-div-places : tie.Need-div-places Inv-loop μ-loop
-div-places c = omega arith
+slice-write-places-2 c = lt-length-set (c .before .before .before .before .before .loop .places) _ _ (omega (arith, room (c .before .before .before)))
 
 add-places-3 : tie.Need-add-places-3 Inv-loop μ-loop
-add-places-3 c = omega (arith, here-is (c .before .before), end-is c)
+add-places-3 c = omega (arith, here-is (c .before .before .before), end-is (c .before), c .cells-in .ensures)
 
 cast-places-3 : tie.Need-cast-places-3 Inv-loop μ-loop
-cast-places-3 c = omega (arith, here-is (c .before .before), end-is c)
+cast-places-3 c = omega (arith, here-is (c .before .before .before), end-is (c .before), c .cells-in .ensures)
 
 add-places-4 : tie.Need-add-places-4 Inv-loop μ-loop
 add-places-4 c = omega arith
@@ -98,13 +98,13 @@ mul-places-3 : tie.Need-mul-places-3 Inv-loop μ-loop
 mul-places-3 c = omega arith
 
 slice-write-places-3 : tie.Need-slice-write-places-3 Inv-loop μ-loop
-slice-write-places-3 c = lt-two-set (c .before .before .before .before .loop .places) _ _ _ _ (room (c .before .before))
+slice-write-places-3 c = lt-two-set (c .before .before .before .before .before .loop .places) _ _ _ _ (room (c .before .before .before))
 
 add-at : tie.Need-add-at Inv-loop μ-loop
-add-at c = omega (arith, here-is (c .before .before))
+add-at c = omega (arith, here-is (c .before .before .before))
 
 add-at-2 : tie.Need-add-at-2 Inv-loop μ-loop
-add-at-2 c = omega (arith, here-is (c .before .before))
+add-at-2 c = omega (arith, here-is (c .before .before .before))
 
 add-r : tie.Need-add-r Inv-loop μ-loop
 add-r c = omega arith
@@ -114,16 +114,16 @@ loop-less c = omega arith
 
 loop-again : tie.Need-loop-again Inv-loop μ-loop
 loop-again c =
-    let w = c .before .before .before .before .loop in
-    let h = here-is (c .before .before) in
-    let m = room (c .before .before) in
+    let w = c .before .before .before .before .before .loop in
+    let h = here-is (c .before .before .before) in
+    let m = room (c .before .before .before) in
     let start-is = ap (λ (k : ℕ). k + 4) (w .inv .1) in
-    let first-is = c .word-at2 .ensures .0 ∙ h .first-is in (
+    let first-is = c .before .word-at2 .ensures .0 ∙ h .first-is in (
       omega arith,
       omega arith,
       omega arith,
       stored-length (w .places) (w .r) _ _ _ m ∙ w .inv .3,
-      upto-more (w .places) (w .r) _ _ _ m _ _ (w .inv .4) start-is first-is (end-is c),
+      upto-more (w .places) (w .r) _ _ _ m _ _ (w .inv .4) start-is first-is (ap (λ (k : ℕ). c .before .word-at2 .result + k) (c .cells-in .ensures) ∙ end-is (c .before)),
     )
 
 same-length : tie.Need-same-length Inv-loop μ-loop
@@ -149,6 +149,8 @@ places-spec =
     word-at-requires
     add-word-at
     word-at-requires-2
+    sub-cells-in
+    cells-in-requires
     mul-k
     add-places
     cast-places
@@ -158,8 +160,6 @@ places-spec =
     add-places-2
     mul-places-2
     slice-write-places-2
-    sub-places
-    div-places
     add-places-3
     cast-places-3
     add-places-4

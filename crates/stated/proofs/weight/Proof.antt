@@ -22,10 +22,10 @@ more c =
     let s = c .before .before .before .before .before .before .before .before .before in
     let l = c .before .before .before .before .before .loop in
     weighed-more _ (s .args .answer .now) (s .args .shape .m) (l .total) (l .j) (l .inv) ((c .before .before .before) .if1 .taken) _ ((c .before .before) .column-at .ensures)
-    (weight-small _ (s .args .answer .now) _ (s .pre .0) (l .j)) _ _ ((c .before) .against .ensures) (c .against2 .ensures)
+    (weight-small _ (s .args .answer .now) _ (s .pre .0) (l .j) ((c .before .before .before) .if1 .taken)) _ _ ((c .before) .against .ensures) (c .against2 .ensures)
 
 -- its total is small
-fits : (c : tie.After-against2 Inv-loop μ-loop) → (c .before .before .before .before .before) .loop .total + ((c .before) .against .result + c .against2 .result) ≤ 267386880
+fits : (c : tie.After-against2 Inv-loop μ-loop) → (c .before .before .before .before .before) .loop .total + ((c .before) .against .result + c .against2 .result) ≤ 805294080
 fits c = omega (arith, (c .before .before .before .before .before .before .before .before .before) .pre .1 .few-columns, more c .small, more c .inside)
 
 loop-holds : tie.Need-loop-holds Inv-loop μ-loop

@@ -4,9 +4,11 @@ use mathlib.Core.Path.{_≡_, refl}
 use Prim.Native.Nat.{ℕ, _+_, _-_, _*_, _≤_, _<_}
 use lib.ListN.{length, getD}
 use Rattle.meaning.specs.Answer.{divisionOf}
+use Rattle.meaning.proofs.Bounds.{Bytes}
 use Rattle.layout.specs.Reads.{matrixIn}
+use Rattle.layout.proofs.Laws.{lawful-light}
 use Rattle.layout.proofs.Cuts.{Cut}
-use Rattle.tally.proofs.Walk.{cleared, cut-read, light, Upto, upto-none, upto-more, upto-small, tallied-all}
+use Rattle.tally.proofs.Walk.{cleared, cut-read, Upto, upto-none, upto-more, upto-small, tallied-all}
 use Rattle.tally.proofs.tally.Statement.{statement}
 use Rattle.tally.proofs.tally.Tie as tie
 
@@ -18,9 +20,8 @@ abbrev μ-loop : tie.MeasureT-loop
 μ-loop shape reads places sides tally₀ r₀ tally r = shape .n - r
 
 -- each byte of the reads
-byte : (c : tie.At-loop Inv-loop μ-loop) (i : ℕ)
-    → getD (c .before .before .before .before .before .before .before .before .before .args .reads .now) i 0 < 256
-byte c i = c .before .before .before .before .before .before .before .before .shared-slice-known .given i .fits
+bytes : (c : tie.At-loop Inv-loop μ-loop) → Bytes (c .before .before .before .before .before .before .before .before .before .args .reads .now)
+bytes c i = let h = c .before .before .before .before .before .before .before .before .shared-slice-known .given i .fits in omega arith
 
 -- the tally has room for each column
 enough : (c : tie.At-loop Inv-loop μ-loop)
@@ -28,7 +29,7 @@ enough : (c : tie.At-loop Inv-loop μ-loop)
 enough c =
     let k = c .before .before .before in
     let s = k .before .before .before .before .before .before in
-    omega (arith, s .pre .1 .1, c .loop .inv .1, k .clear .kept)
+    omega (arith, s .pre .1 .1 .1, c .loop .inv .1, k .clear .kept)
 
 -- read r has its three numbers
 room : (c : tie.Then1 Inv-loop μ-loop)
@@ -101,9 +102,9 @@ tally-read-requires c κs =
     let lawful = s .pre .0 .0 in
     let h = cut e in
     let few : l .loop .r ≤ 1024 = omega (arith, l .loop .inv .0, lawful .few-reads) in
-    let thin = light (s .args .shape) (s .args .reads .now) (lawful .two) (byte l) in (
-      (lawful .two, h .ordered, h .sized, omega (arith, h .within, enough l), c .before .side-of .ensures .0),
-      (h .cells-good, upto-small _ _ thin (l .loop .r) (l .loop .tally) few (l .loop .inv .2)),
+    let weights = lawful-light (s .args .shape) (s .args .reads .now) lawful (bytes l) in (
+      (lawful .cell, h .ordered, h .sized, omega (arith, h .within, enough l), c .before .side-of .ensures .0),
+      (h .cells-good, upto-small _ _ weights (l .loop .r) (l .loop .tally) few (l .loop .inv .2)),
     )
 
 add-r : tie.Need-add-r Inv-loop μ-loop
@@ -133,7 +134,7 @@ returns c =
     let l = c .before .before in
     let s = l .before .before .before .before .before .before .before .before .before in
     let a = s .args in
-    tallied-all (a .shape) (a .reads .now) (a .sides .now) (l .loop .tally) (s .pre .0 .0) (byte l) (enough l) (l .loop .r) (omega arith)
+    tallied-all (a .shape) (a .reads .now) (a .sides .now) (l .loop .tally) (s .pre .0 .0) (bytes l) (s .pre .1 .0) (enough l) (l .loop .r) (omega arith)
     (l .loop .inv .2)
 
 pub tally-spec : {M : Type 1} → statement M

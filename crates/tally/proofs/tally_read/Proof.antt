@@ -1,15 +1,16 @@
 use borrow.Author.Needs.{needs}
 use native.Mathlib.Omega.{arith}
 use mathlib.Core.Bool.{false}
-use mathlib.Core.Path.{_≡_, refl, subst}
+use mathlib.Core.Path.{_≡_, refl, sym, subst}
 use Prim.Native.Nat.{ℕ, _+_, _-_, _*_, _%_, _≤_, _<_}
 use lib.ListN.{length, length-set}
 use Rattle.meaning.specs.Block.{cellAt}
 use Rattle.meaning.specs.Refusals.{badCell}
 use Rattle.layout.specs.Places.{readFrom}
+use Rattle.layout.proofs.Laws.{cell-fits}
 use Rattle.sums.specs.Sums.{sideOf}
 use Rattle.tally.specs.Tally.{ReadAdded}
-use Rattle.tally.proofs.Turns.{cell-inside, Stored, letter-known, cell-more, cell-room, none-added}
+use Rattle.tally.proofs.Turns.{Stored, letter-known, cell-more, cell-room, none-added}
 use Rattle.tally.proofs.tally_read.Statement.{statement}
 use Rattle.tally.proofs.tally_read.Tie as tie
 
@@ -23,10 +24,10 @@ abbrev μ-loop : tie.MeasureT-loop
 
 -- cell i is inside, and good
 within : (c : tie.In-loop Inv-loop μ-loop)
-    → let a = c .before .before .before .before .args in a .size * c .before .loop .i + 1 < length (a .cells .now)
+    → let a = c .before .before .before .before .args in a .size * c .before .loop .i + a .size ≤ length (a .cells .now)
 within c =
     let s = c .before .before .before .before in
-    cell-inside (s .args .size) (c .before .loop .i) _ _ (s .pre .0 .0) (c .loop-test .taken) (s .pre .0 .2)
+    subst (λ (n : ℕ). s .args .size * c .before .loop .i + s .args .size ≤ n) (sym (s .pre .0 .2)) (cell-fits (s .args .size) (c .before .loop .i) _ (c .loop-test .taken))
 
 fine : (c : tie.In-loop Inv-loop μ-loop)
     → let a = c .before .before .before .before .args in badCell (cellAt (a .size) (a .cells .now) (c .before .loop .i)) ≡ false
@@ -43,11 +44,10 @@ storing c =
     let l = w .before .before in
     let s = l .before .before .before .before in
     record {
-      two = s .pre .0 .0;
       fine = fine l;
       small = s .pre .0 .4;
       where-is = omega (arith, l .before .loop .inv .1, w .wide .ensures);
-      what-is = omega (arith, c .before .added .ensures, w .wide .ensures);
+      what-is = omega (arith, c .before .added .ensures, w .wide .ensures, c .before .before .weight-at .ensures .0);
     }
 
 inside : (c : tie.After-slice-known2 Inv-loop μ-loop)
@@ -74,26 +74,21 @@ loop-holds c =
     let a = c .before .before .args in
     (omega arith, omega arith, refl, none-added (a .size) (a .from) (a .cells .now) (sideOf (a .side)) (a .tally .now))
 
-mul-wide : tie.Need-mul-wide Inv-loop μ-loop
-mul-wide c = omega (arith, within c)
+mul-cell : tie.Need-mul-cell Inv-loop μ-loop
+mul-cell c = omega (arith, within c)
 
 shared-slice-read-wide : tie.Need-shared-slice-read-wide Inv-loop μ-loop
-shared-slice-read-wide c = omega (arith, within (c .before))
+shared-slice-read-wide c = omega (arith, within (c .before), c .before .before .before .before .before .pre .0 .0 .0)
 
 wide-requires : tie.Need-wide-requires Inv-loop μ-loop
 wide-requires c κs = search needs
 
-mul-added : tie.Need-mul-added Inv-loop μ-loop
-mul-added c = omega (arith, within (c .before .before))
-
-add-added : tie.Need-add-added Inv-loop μ-loop
-add-added c = omega (arith, within (c .before .before))
-
-shared-slice-read-added : tie.Need-shared-slice-read-added Inv-loop μ-loop
-shared-slice-read-added c = within (c .before .before .before)
+weight-at-requires : tie.Need-weight-at-requires Inv-loop μ-loop
+weight-at-requires c κs = (c .before .before .before .before .before .before .pre .0 .0, within (c .before .before))
 
 added-requires : tie.Need-added-requires Inv-loop μ-loop
-added-requires c κs = omega (arith, letter-known _ _ _ (fine (c .before .before .before)), c .before .wide .ensures)
+added-requires c κs =
+    (omega (arith, letter-known _ _ _ (fine (c .before .before .before)), c .before .wide .ensures), c .weight-at .ensures .1)
 
 add-k : tie.Need-add-k Inv-loop μ-loop
 add-k c = search needs
@@ -108,8 +103,8 @@ add-tally : tie.Need-add-tally Inv-loop μ-loop
 add-tally c =
     let l = c .before .before .before .before .before .before in
     let s = l .before .before .before in
-    let room = cell-room _ _ _ (storing c) (s .args .tally .now) (l .loop .tally) 1000000000 (l .loop .inv .3) (s .pre .1 .1) in
-    omega (arith, room, storing c .what-is, c .before .before .shared-slice-known3 .given (s .args .size * l .loop .i + 1) .fits)
+    let room = cell-room _ _ _ (storing c) (s .args .tally .now) (l .loop .tally) 2000000000 (l .loop .inv .3) (s .pre .1 .1) in
+    omega (arith, room, storing c .what-is, c .before .before .weight-at .ensures)
 
 mul-tally-2 : tie.Need-mul-tally-2 Inv-loop μ-loop
 mul-tally-2 c = search needs
@@ -158,12 +153,10 @@ tally-read-spec =
     mul-at-2
     add-at
     loop-holds
-    mul-wide
+    mul-cell
     shared-slice-read-wide
     wide-requires
-    mul-added
-    add-added
-    shared-slice-read-added
+    weight-at-requires
     added-requires
     add-k
     mul-tally

@@ -4,6 +4,7 @@ use Prim.Native.Nat.{_≤_}
 use mathlib.Core.Path.{_≡_, _∙_}
 use Rattle.meaning.specs.Charge.{charge, leastCost}
 use Rattle.layout.specs.Reads.{matrixIn}
+use Rattle.layout.proofs.Laws.{ready-thin}
 use Rattle.stated.specs.Stated.{StatedTally}
 use Rattle.verdict.specs.Stages.{Least}
 use Rattle.verdict.proofs.Tallies.{sides-fit, tally-stated}
@@ -49,7 +50,7 @@ part-tally-end c = let s = c .before .before .before .before .before .before .be
 tally-requires : tie.Need-tally-requires
 tally-requires c κs =
     let s = c .before .before .before .before .before .before .before .before .before .before in
-    ((s .pre .0 .ready .lawful, s .pre .0 .ready .noted), (sides-fit (s .args .answer .now) (s .args .shape .m) (s .args .shape .n) (s .pre .1 .0 .0), s .pre .1 .1 .0))
+    ((s .pre .0 .ready .lawful, s .pre .0 .ready .noted), (ready-thin _ _ _ _ (s .pre .0 .ready), (sides-fit (s .args .answer .now) (s .args .shape .m) (s .args .shape .n) (s .pre .1 .0 .0), s .pre .1 .1 .0)))
 
 false-dash-requires : tie.Need-false-dash-requires
 false-dash-requires c κs = let s = c .before .before .before .before .before .before .before .before .before .before .before .before .before .before in (tallied (c .before .before .before), s .pre .1 .0 .0)

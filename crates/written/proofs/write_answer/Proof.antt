@@ -10,7 +10,7 @@ use Rattle.meaning.specs.Charge.{charge, leastCost, best}
 use Rattle.meaning.specs.Answer.{sidesOf}
 use Rattle.meaning.specs.Call.{laid}
 use Rattle.layout.specs.Reads.{matrixIn}
-use Rattle.layout.proofs.Laws.{count-is, lawful-placed}
+use Rattle.layout.proofs.Laws.{count-is, lawful-placed, ready-thin}
 use Rattle.written.proofs.Answered.{cost-is, sides-are, sides-laid, sides-size, output-length, finished}
 use Rattle.written.proofs.write_answer.Statement.{statement}
 use Rattle.written.proofs.write_answer.Tie as tie
@@ -76,7 +76,7 @@ write-letters-requires : tie.Need-write-letters-requires
 write-letters-requires c κs =
     let s = c .before .before .before .before .before .before .before .before .before .before .before .before .before .before in
     let r = s .pre .0 in
-    ((r .lawful, r .noted), (le-trans (s .pre .1 .1 .1) (le-of-eq (sym (after-sides (c .before .before .before .before .before)))), le-of-eq (sym (tally-room s))))
+    ((r .lawful, r .noted), (ready-thin _ _ _ _ r, (le-trans (s .pre .1 .1 .1) (le-of-eq (sym (after-sides (c .before .before .before .before .before)))), le-of-eq (sym (tally-room s)))))
 
 least-last-requires : tie.Need-least-last-requires
 least-last-requires c κs = let s = c .before .before .before .before .before .before .before .before .before .before .before .before .before .before .before .before .before .before .before in (s .pre .0, (s .pre .1 .0 .0, s .pre .1 .1 .0 .0))

@@ -51,14 +51,14 @@ part-tally-end c = omega (arith, sizes (c .before .before .before .before .befor
 tally-requires : tie.Need-tally-requires Inv-loop μ-loop
 tally-requires c κs =
     let s = c .before .before .before .before .before .before .before in
-    let k = sides-length (s .args .shape .n) (s .args .out .now) (omega (arith, s .pre .1 .0)) in
-    ((s .pre .0 .0, s .pre .0 .1), (omega arith, s .pre .1 .1))
+    let k = sides-length (s .args .shape .n) (s .args .out .now) (omega (arith, s .pre .1 .1 .0)) in
+    ((s .pre .0 .0, s .pre .0 .1), (s .pre .1 .0, (omega arith, s .pre .1 .1 .1)))
 
 loop-holds : tie.Need-loop-holds Inv-loop μ-loop
-loop-holds c = let s = c .before .before .before .before .before .before .before .before .before .before in written-none _ (s .args .shape .n) (s .args .shape .m) (s .args .out .now) (s .pre .1 .0)
+loop-holds c = let s = c .before .before .before .before .before .before .before .before .before .before in written-none _ (s .args .shape .n) (s .args .shape .m) (s .args .out .now) (s .pre .1 .1 .0)
 
 letters-at-requires : tie.Need-letters-at-requires Inv-loop μ-loop
-letters-at-requires c κs = let s = c .before .before .before .before .before .before .before .before .before .before .before .before .before .before in omega (arith, tally-kept (c .before .before .before .before .before .before), s .pre .1 .1, (c .before) .if1 .taken)
+letters-at-requires c κs = let s = c .before .before .before .before .before .before .before .before .before .before .before .before .before .before in omega (arith, tally-kept (c .before .before .before .before .before .before), s .pre .1 .1 .1, (c .before) .if1 .taken)
 
 add-out : tie.Need-add-out Inv-loop μ-loop
 add-out c = omega (arith, sizes (c .before .before .before .before .before .before .before .before .before .before .before .before .before .before .before), (c .before .before) .if1 .taken)
@@ -67,7 +67,7 @@ add-out-2 : tie.Need-add-out-2 Inv-loop μ-loop
 add-out-2 c = omega (arith, sizes (c .before .before .before .before .before .before .before .before .before .before .before .before .before .before .before), (c .before .before) .if1 .taken)
 
 slice-write-out : tie.Need-slice-write-out Inv-loop μ-loop
-slice-write-out c = omega (arith, written (c .before .before), (c .before .before) .if1 .taken, (c .before .before .before .before .before .before .before .before .before .before .before .before .before .before .before) .pre .1 .0)
+slice-write-out c = omega (arith, written (c .before .before), (c .before .before) .if1 .taken, (c .before .before .before .before .before .before .before .before .before .before .before .before .before .before .before) .pre .1 .1 .0)
 
 add-out-3 : tie.Need-add-out-3 Inv-loop μ-loop
 add-out-3 c = omega (arith, sizes (c .before .before .before .before .before .before .before .before .before .before .before .before .before .before .before), (c .before .before) .if1 .taken)
@@ -79,7 +79,7 @@ add-out-5 : tie.Need-add-out-5 Inv-loop μ-loop
 add-out-5 c = omega (arith, sizes (c .before .before .before .before .before .before .before .before .before .before .before .before .before .before .before), (c .before .before) .if1 .taken)
 
 slice-write-out-2 : tie.Need-slice-write-out-2 Inv-loop μ-loop
-slice-write-out-2 c = simp length-set (omega (arith, written (c .before .before), (c .before .before) .if1 .taken, (c .before .before .before .before .before .before .before .before .before .before .before .before .before .before .before) .pre .1 .0))
+slice-write-out-2 c = simp length-set (omega (arith, written (c .before .before), (c .before .before) .if1 .taken, (c .before .before .before .before .before .before .before .before .before .before .before .before .before .before .before) .pre .1 .1 .0))
 
 add-flips : tie.Need-add-flips Inv-loop μ-loop
 add-flips c = omega (arith, sizes (c .before .before .before .before .before .before .before .before .before .before .before .before .before .before .before .before), told c .flips-few, (c .before .before .before .before .before) .loop .inv .flips-few, (c .before .before .before) .if1 .taken)
@@ -94,7 +94,7 @@ loop-again : tie.Need-loop-again Inv-loop μ-loop
 loop-again c =
     let s = c .before .before .before .before .before .before .before .before .before .before .before .before .before .before .before .before in
     let l = c .before .before .before .before .before .loop in
-    written-more _ (s .args .shape .n) (s .args .shape .m) (s .args .out .now) (s .pre .1 .0) (l .out) (l .flips) (l .j) (l .inv) ((c .before .before .before) .if1 .taken) _ (told c)
+    written-more _ (s .args .shape .n) (s .args .shape .m) (s .args .out .now) (s .pre .1 .1 .0) (l .out) (l .flips) (l .j) (l .inv) ((c .before .before .before) .if1 .taken) _ (told c)
 
 same-length : tie.Need-same-length Inv-loop μ-loop
 same-length c = tally-kept (c .before .before .before .before .before)
@@ -106,7 +106,7 @@ returns : tie.Need-returns Inv-loop μ-loop
 returns c =
     let s = c .before .before .before .before .before .before .before .before .before .before .before .before .before in
     let l = c .before .before .loop in
-    written-all _ (s .args .shape .n) (s .args .shape .m) (s .args .out .now) (s .pre .1 .0) (l .out) (l .flips) (l .j) (l .inv) refl (c .if1 .left)
+    written-all _ (s .args .shape .n) (s .args .shape .m) (s .args .out .now) (s .pre .1 .1 .0) (l .out) (l .flips) (l .j) (l .inv) refl (c .if1 .left)
 
 pub write-letters-spec : {M : Type 1} → statement M
 write-letters-spec =

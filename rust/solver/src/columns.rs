@@ -8,6 +8,7 @@ mod letters;
 mod pile;
 mod walk;
 
+use crate::block::{NARROW, WIDE};
 use crate::checks::{Placed, entries};
 use crate::{Block, Numbers, answer};
 use pile::Pile;
@@ -27,27 +28,32 @@ pub fn walk(bytes: &[u8], work: &mut [u32], out: &mut [u8]) -> Numbers {
 /// By eight entries at a step or by one.
 fn phased<const EIGHT: bool>(bytes: &[u8], work: &mut [u32], out: &mut [u8]) -> Numbers {
     match Placed::accepted(bytes, work.len(), out.len()) {
-        Ok(Placed { block, width }) => {
-            let piles = pile::piles(&block);
-            table::<EIGHT>(&block, &piles, width, work);
-            let (sides, haplotypes) = answer::parts(&block, out);
-            let cost = back::way_back(&block, &piles, width, work, sides);
-            let flips = letters::write(&block, sides, haplotypes);
-            answer::write_head(&block, cost, flips, out);
-            (0, cost)
-        }
+        Ok(placed) if placed.block.cell == NARROW => solved::<EIGHT, NARROW>(&placed, work, out),
+        Ok(placed) => solved::<EIGHT, WIDE>(&placed, work, out),
         Err(numbers) => numbers,
     }
 }
 
+/// A block with cells of so many bytes, for which this is compiled: weights of one byte do not pay for those of two.
+fn solved<const EIGHT: bool, const CELL: usize>(placed: &Placed, work: &mut [u32], out: &mut [u8]) -> Numbers {
+    let Placed { block, width } = placed;
+    let piles = pile::piles(block);
+    table::<EIGHT, CELL>(block, &piles, *width, work);
+    let (sides, haplotypes) = answer::parts(block, out);
+    let cost = back::way_back(block, &piles, *width, work, sides);
+    let flips = letters::write::<CELL>(block, sides, haplotypes);
+    answer::write_head(block, cost, flips, out);
+    (0, cost)
+}
+
 /// Every column's entries, from the first column on.
-fn table<const EIGHT: bool>(block: &Block, piles: &[Pile], width: usize, work: &mut [u32]) {
+fn table<const EIGHT: bool, const CELL: usize>(block: &Block, piles: &[Pile], width: usize, work: &mut [u32]) {
     let mut room = vec![0; width];
     let mut before: &[u32] = &[0];
     for (column, (part, pile)) in work.chunks_exact_mut(width).zip(piles).enumerate() {
         let carried = carry::least(before, entries(pile.joined()), &mut room);
         let (used, rest) = part.split_at_mut(entries(pile.reads().len()));
-        walk::fill::<EIGHT>(block, pile, column, carried, used);
+        walk::fill::<EIGHT, CELL>(block, pile, column, carried, used);
         rest.fill(0);
         before = used;
     }

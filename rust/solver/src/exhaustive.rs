@@ -28,10 +28,10 @@ fn sums(block: &Block, sides: &[u8], column: usize) -> ([[u32; 2]; 2], [[u32; 2]
     let (mut weights, mut counts) = ([[0; 2]; 2], [[0; 2]; 2]);
     for (read, &side) in block.reads.iter().zip(sides) {
         if read.active(column) {
-            let cell = &block.cells(read)[2 * (column - usize::from(read.first))..];
-            if cell[0] < 2 {
-                weights[usize::from(side)][usize::from(cell[0])] += u32::from(cell[1]);
-                counts[usize::from(side)][usize::from(cell[0])] += 1;
+            let (letter, weight) = block.cell(read, column - usize::from(read.first));
+            if letter < 2 {
+                weights[usize::from(side)][usize::from(letter)] += weight;
+                counts[usize::from(side)][usize::from(letter)] += 1;
             }
         }
     }

@@ -42,9 +42,9 @@ fn weights(block: &Block, sides: &[u8]) -> [Vec<[u32; 2]>; 2] {
     let mut weights = [vec![[0; 2]; block.columns], vec![[0; 2]; block.columns]];
     for (read, &side) in block.reads.iter().zip(sides) {
         let span = &mut weights[usize::from(side)][usize::from(read.first)..];
-        for (weights, cell) in span.iter_mut().zip(block.cells(read).chunks_exact(2)) {
-            if cell[0] < 2 {
-                weights[usize::from(cell[0])] += u32::from(cell[1]);
+        for (weights, (letter, weight)) in span.iter_mut().zip(block.cells(read)) {
+            if letter < 2 {
+                weights[usize::from(letter)] += weight;
             }
         }
     }

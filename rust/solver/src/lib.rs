@@ -1,4 +1,4 @@
-//! A solver of fragment blocks that shares nothing with the proved library, written from document 01.
+//! A solver of fragment blocks of both versions that shares nothing with the proved library, written from documents 01 and 02.
 //!
 //! [`exhaustive`] tries every division of the reads and is for small blocks. [`columns`] is the column
 //! method, written for speed, and [`walk`] the same with one entry at each step. All take the rooms that the proved call takes and leave in them what

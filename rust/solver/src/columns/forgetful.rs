@@ -4,15 +4,15 @@
 //! entries without a hole as if each were a read of its own, and this is how it is written here.
 
 use super::{back, letters, pile, table};
-use crate::block::Read;
+use crate::block::{NARROW, Read, WIDE};
 use crate::checks::Placed;
 use crate::{Block, Numbers, answer};
 use std::ops::Range;
 
 /// The runs of cells that are no holes.
-fn runs(cells: &[u8]) -> Vec<Range<usize>> {
+fn runs(cells: impl Iterator<Item = (u8, u32)>) -> Vec<Range<usize>> {
     let mut runs: Vec<Range<usize>> = Vec::new();
-    for (i, _) in cells.chunks_exact(2).enumerate().filter(|(_, cell)| cell[0] < 2) {
+    for (i, _) in cells.enumerate().filter(|(_, (letter, _))| *letter < 2) {
         match runs.last_mut() {
             Some(run) if run.end == i => run.end = i + 1,
             _ => runs.push(i..i + 1),
@@ -23,30 +23,35 @@ fn runs(cells: &[u8]) -> Vec<Range<usize>> {
 
 /// The runs of each read.
 fn split(block: &Block) -> Vec<Vec<Read>> {
-    let split = |read: &Read| runs(block.cells(read)).into_iter().map(|run| read.part(run)).collect();
+    let split = |read: &Read| runs(block.cells(read)).into_iter().map(|run| read.part(run, block.cell)).collect();
     block.reads.iter().map(split).collect()
 }
 
 /// Phases a block, forgetting each read in its holes. Cost, flips and letters are those of the divided runs; a read's side is
 /// that of its first run, which the way back meets last. Refusals are as they should be.
 pub fn forgetful(bytes: &[u8], work: &mut [u32], out: &mut [u8]) -> Numbers {
-    let Placed { block, width } = match Placed::accepted(bytes, work.len(), out.len()) {
-        Ok(placed) => placed,
-        Err(numbers) => return numbers,
-    };
-    let split = split(&block);
+    match Placed::accepted(bytes, work.len(), out.len()) {
+        Ok(placed) if placed.block.cell == NARROW => forgotten::<NARROW>(&placed, work, out),
+        Ok(placed) => forgotten::<WIDE>(&placed, work, out),
+        Err(numbers) => numbers,
+    }
+}
+
+fn forgotten<const CELL: usize>(placed: &Placed, work: &mut [u32], out: &mut [u8]) -> Numbers {
+    let Placed { block, width } = placed;
+    let split = split(block);
     let runs = block.with_reads(split.concat());
     let piles = pile::piles(&runs);
-    table::<true>(&runs, &piles, width, work);
+    table::<true, CELL>(&runs, &piles, *width, work);
     let mut sides = vec![0; runs.reads.len()];
-    let cost = back::way_back(&runs, &piles, width, work, &mut sides);
-    let (stated, haplotypes) = answer::parts(&block, out);
-    let flips = letters::write(&runs, &sides, haplotypes);
+    let cost = back::way_back(&runs, &piles, *width, work, &mut sides);
+    let (stated, haplotypes) = answer::parts(block, out);
+    let flips = letters::write::<CELL>(&runs, &sides, haplotypes);
     let mut next = 0;
     for (side, runs) in stated.iter_mut().zip(&split) {
         *side = if runs.is_empty() { 0 } else { sides[next] };
         next += runs.len();
     }
-    answer::write_head(&block, cost, flips, out);
+    answer::write_head(block, cost, flips, out);
     (0, cost)
 }

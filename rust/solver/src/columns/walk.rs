@@ -3,14 +3,34 @@
 
 use super::Pile;
 use crate::Block;
+use crate::block::NARROW;
 use crate::checks::entries;
 
-/// The four sums in one word, 16 bits each (12 reads weigh at most 3,060): side 0's letters 0 and 1, then side 1's.
+/// The sums in one word. Of weights of one byte (12 reads weigh at most 3,060) all four, 16 bits each: side 0's letters 0 and 1,
+/// then side 1's. Of weights of two bytes (12 reads weigh at most 786,420) side 0's, 32 bits each; side 1's are what is left
+/// of the sums with all reads on side 0.
 type Sums = u64;
 
-fn charge(sums: Sums) -> u32 {
-    let lane = |i: u32| (sums >> (16 * i)) as u16;
-    u32::from(lane(0).min(lane(1))) + u32::from(lane(2).min(lane(3)))
+/// The charge, by the sums and by what they are with all reads on side 0.
+fn charge<const CELL: usize>(sums: Sums, all: Sums) -> u32 {
+    if CELL == NARROW {
+        let lane = |i: u32| (sums >> (16 * i)) as u16;
+        u32::from(lane(0).min(lane(1))) + u32::from(lane(2).min(lane(3)))
+    } else {
+        let least = |sums: Sums| (sums as u32).min((sums >> 32) as u32);
+        least(sums) + least(all - sums)
+    }
+}
+
+/// What an entry adds to the sums on side 0, and when it goes from there to side 1.
+fn adds<const CELL: usize>(letter: u8, weight: u32) -> (Sums, Sums) {
+    if CELL == NARROW {
+        let weight = Sums::from(weight) << (16 * (letter & 1));
+        (weight, (weight << 32).wrapping_sub(weight))
+    } else {
+        let weight = Sums::from(weight) << (32 * (letter & 1));
+        (weight, weight.wrapping_neg())
+    }
 }
 
 /// What each active read but the first adds to the sums, and turns in the index of the reads shared with the column
@@ -27,7 +47,7 @@ fn turn(shared: usize, classes: usize) -> usize {
 }
 
 /// The steps of a column, and the sums with all reads on side 0.
-fn steps(block: &Block, pile: &Pile, column: usize) -> (Steps, Sums) {
+fn steps<const CELL: usize>(block: &Block, pile: &Pile, column: usize) -> (Steps, Sums) {
     let classes = entries(pile.joined());
     let mut steps = Steps { moves: [0; 12], turns: [0; 12] };
     let mut sums = 0;
@@ -36,10 +56,10 @@ fn steps(block: &Block, pile: &Pile, column: usize) -> (Steps, Sums) {
         // SAFETY: the reads of a pile are of this block and active at its column, at most 12
         unsafe {
             let read = block.reads.get_unchecked(usize::from(number));
-            let (letter, weight) = block.cell(read, column);
-            let weight = Sums::from(weight) << (16 * (letter & 1));
-            sums += weight;
-            *steps.moves.get_unchecked_mut(i) = (weight << 32).wrapping_sub(weight);
+            let (letter, weight) = block.cell_at::<CELL>(read, column);
+            let (added, moved) = adds::<CELL>(letter, weight);
+            sums += added;
+            *steps.moves.get_unchecked_mut(i) = moved;
             if usize::from(read.first) < column {
                 *steps.turns.get_unchecked_mut(i) = turn(shared, classes);
                 shared += 1;
@@ -50,24 +70,31 @@ fn steps(block: &Block, pile: &Pile, column: usize) -> (Steps, Sums) {
 }
 
 /// One column's entries: the charge of each division and what it takes over from the column before.
-pub fn fill<const EIGHT: bool>(block: &Block, pile: &Pile, column: usize, carried: &[u32], part: &mut [u32]) {
-    let (steps, sums) = steps(block, pile, column);
+pub fn fill<const EIGHT: bool, const CELL: usize>(
+    block: &Block,
+    pile: &Pile,
+    column: usize,
+    carried: &[u32],
+    part: &mut [u32],
+) {
+    let (steps, sums) = steps::<CELL>(block, pile, column);
     // SAFETY: `part` has an entry for each division of the pile, `carried` one for each division of its shared reads
     unsafe {
         if !EIGHT || part.len() < 8 {
-            walk(&steps, sums, carried, part);
+            walk::<CELL>(&steps, sums, carried, part);
         } else {
-            walk_by_eights(&steps, sums, carried, part);
+            walk_by_eights::<CELL>(&steps, sums, carried, part);
         }
     }
 }
 
-/// The walk itself.
-unsafe fn walk(steps: &Steps, mut sums: Sums, carried: &[u32], part: &mut [u32]) {
+/// The walk itself, from the sums with all reads on side 0.
+unsafe fn walk<const CELL: usize>(steps: &Steps, all: Sums, carried: &[u32], part: &mut [u32]) {
+    let mut sums = all;
     let (mut k, mut fold, mut step) = (0, 0, 1);
     loop {
         unsafe {
-            *part.get_unchecked_mut(k) = charge(sums) + carried.get_unchecked(fold);
+            *part.get_unchecked_mut(k) = charge::<CELL>(sums, all) + carried.get_unchecked(fold);
             if step == part.len() {
                 return;
             }
@@ -95,14 +122,15 @@ fn low_digits(steps: &Steps) -> ([Sums; 8], [usize; 8]) {
 }
 
 /// The walk over the higher digits, eight entries at each step.
-unsafe fn walk_by_eights(steps: &Steps, mut sums: Sums, carried: &[u32], part: &mut [u32]) {
+unsafe fn walk_by_eights<const CELL: usize>(steps: &Steps, all: Sums, carried: &[u32], part: &mut [u32]) {
     let (adds, turns) = low_digits(steps);
+    let mut sums = all;
     let (mut k, mut fold, mut step) = (0, 0, 1);
     loop {
         unsafe {
             for i in 0..8 {
                 *part.get_unchecked_mut(8 * k + i) =
-                    charge(sums.wrapping_add(adds[i])) + carried.get_unchecked(fold ^ turns[i]);
+                    charge::<CELL>(sums.wrapping_add(adds[i]), all) + carried.get_unchecked(fold ^ turns[i]);
             }
             if 8 * step == part.len() {
                 return;

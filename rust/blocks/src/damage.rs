@@ -1,7 +1,7 @@
 //! Damage to one field of a block.
 
 use crate::Random;
-use matrix::{Matrix, set_length};
+use matrix::{Matrix, cell_bytes, set_length};
 
 /// What is damaged.
 #[derive(Clone, Copy, Debug, PartialEq, Eq)]
@@ -49,7 +49,7 @@ impl Field {
         let mut block = matrix.block();
         let any = random.within(0, 65535);
         match self {
-            Field::Version => block[0] = random.pick(&[0, 2, 3, 255]),
+            Field::Version => block[0] = random.pick(&[0, 3 - matrix.version, 3, 255]),
             Field::Length => self.stretch(&mut block, random),
             Field::Columns => {
                 let m = matrix.columns;
@@ -74,10 +74,11 @@ impl Field {
     fn damage_read(self, matrix: &Matrix, block: &mut [u8], random: &mut Random) -> Option<()> {
         let read = random.within(0, matrix.rows.len().checked_sub(1)?);
         let (at, row) = (place(matrix, read), &matrix.rows[read]);
-        let (length, first, m) = (2 + 2 * row.cells.len(), row.first, matrix.columns);
+        let (length, first, m) = (2 + cell_bytes(matrix.version) * row.cells.len(), row.first, matrix.columns);
         let any = random.within(0, 65535);
         if self == Field::ReadLength {
-            put(block, at, random.pick(&[0, 1, 2, length - 2, length - 1, length + 1, length + 2, 65535, any]));
+            let more = random.within(1, 6);
+            put(block, at, random.pick(&[0, 1, 2, length.saturating_sub(more), length + more, 65535, any]));
         } else {
             put(
                 block,
@@ -95,11 +96,11 @@ impl Field {
         let last = matrix.rows[read].cells.len() - 1;
         let any = random.within(0, last);
         let cell = random.pick(&[0, last, any]);
-        let at = place(matrix, read) + 4 + 2 * cell;
-        if self == Field::Letter {
-            block[at] = random.pick(&[0, 1, 2, 3, 255]);
-        } else {
-            block[at + 1] = random.pick(&[0, 1, 255]);
+        let at = place(matrix, read) + 4 + cell_bytes(matrix.version) * cell;
+        match (self, matrix.version) {
+            (Field::Letter, _) => block[at] = random.pick(&[0, 1, 2, 3, 255]),
+            (_, 1) => block[at + 1] = random.pick(&[0, 1, 255]),
+            _ => put(block, at + 1, random.pick(&[0, 1, 255, 256, 65280, 65535])),
         }
         Some(())
     }
@@ -125,5 +126,5 @@ impl Field {
 
 /// Where a read's L stands in the block of a matrix.
 fn place(matrix: &Matrix, read: usize) -> usize {
-    9 + matrix.rows[..read].iter().map(|row| 4 + 2 * row.cells.len()).sum::<usize>()
+    9 + matrix.rows[..read].iter().map(|row| 4 + cell_bytes(matrix.version) * row.cells.len()).sum::<usize>()
 }

@@ -1,7 +1,13 @@
 //! The kinds of matrices that a solver can go wrong on.
 
-use crate::{Gaps, Random, Style, Weights};
+use crate::{EDGES, Gaps, Random, Style, Weights};
 use matrix::{Matrix, Row};
+
+/// Multiples of 256, of which the low byte says nothing.
+const MULTIPLES: [u16; 5] = [256, 512, 1024, 32768, 65280];
+
+/// So heavy that five reads of one side and letter pass 18 bits.
+const HEAVY: [u16; 3] = [65535, 65534, 65280];
 
 /// The small kinds have so few reads with cells that every division can be tried, unless more than 12 are active.
 #[derive(Clone, Copy, Debug, PartialEq, Eq)]
@@ -42,15 +48,15 @@ impl Kind {
     ];
     pub const LARGE: [Kind; 2] = [Kind::Many, Kind::Deep];
 
-    /// A matrix of this kind. Every one passes checks 1 to 8.
-    pub fn matrix(self, random: &mut Random) -> Matrix {
-        let weights = random.pick(&[Weights::UpTo(255), Weights::UpTo(20), Weights::UpTo(3)]);
+    /// A matrix of this kind, in this version. Every one passes checks 1 to 8.
+    pub fn matrix(self, version: u8, random: &mut Random) -> Matrix {
+        let weights = random.pick(any_weights(version));
         let style = |gaps| Style { gaps, weights };
-        match self {
+        let matrix = match self {
             Kind::Gapless => scattered(random, style(Gaps::None)),
             Kind::Pairs => paired(random, style(Gaps::Pair)),
             Kind::Holes => scattered(random, style(Gaps::OneIn(2))),
-            Kind::Ties => tied(random),
+            Kind::Ties => tied(version, random),
             Kind::Weightless => {
                 let weights = Weights::ZeroButOneIn(random.within(3, 9));
                 scattered(random, Style { gaps: Gaps::OneIn(3), weights })
@@ -59,9 +65,41 @@ impl Kind {
             Kind::Apart => apart(random, style(Gaps::OneIn(3))),
             Kind::Crowded => crowded(random, style(Gaps::Pair)),
             Kind::Long => long(random, style(Gaps::OneIn(3))),
-            Kind::Many => layered(random, 1024, 9),
-            Kind::Deep => layered(random, 200, 13),
-        }
+            Kind::Many => layered(version, random, 1024, 9),
+            Kind::Deep => layered(version, random, 200, 13),
+        };
+        matrix.in_version(version).expect("weights of this version")
+    }
+}
+
+/// The weights of a matrix in this version, small ones too.
+fn any_weights(version: u8) -> &'static [Weights] {
+    match version {
+        1 => &[Weights::UpTo(255), Weights::UpTo(20), Weights::UpTo(3)],
+        _ => &[
+            Weights::UpTo(65535),
+            Weights::OneOf(&EDGES),
+            Weights::OneOf(&MULTIPLES),
+            Weights::OneOf(&HEAVY),
+            Weights::UpTo(255),
+            Weights::UpTo(3),
+        ],
+    }
+}
+
+/// Weights that are often equal, or would be in part of their bytes or with a sum cut off at 16 bits.
+fn equal_weights(version: u8) -> &'static [Weights] {
+    match version {
+        1 => &[Weights::Always(1), Weights::Always(0), Weights::UpTo(1), Weights::UpTo(2)],
+        _ => &[
+            Weights::Always(65535),
+            Weights::Always(256),
+            Weights::OneOf(&[1, 256]),
+            Weights::OneOf(&[1, 65535]),
+            Weights::OneOf(&[255, 511]),
+            Weights::OneOf(&[32767, 32768, 65535]),
+            Weights::UpTo(2),
+        ],
     }
 }
 
@@ -70,7 +108,7 @@ fn scattered(random: &mut Random, style: Style) -> Matrix {
     let most = random.pick(&[4, 8, 8, 12]);
     let (columns, reads) = (random.within(1, 9), random.within(0, most));
     let rows = (0..reads).map(|_| style.row_within(random, 0, columns, columns));
-    Matrix { columns, rows: rows.collect() }
+    Matrix::new(columns, rows.collect())
 }
 
 /// Most reads reach over nearly all columns.
@@ -81,7 +119,7 @@ fn paired(random: &mut Random, style: Style) -> Matrix {
         let first = random.within(0, columns - cells);
         if random.one_in(4) { style.row_within(random, 0, columns, 3) } else { style.row(random, first, cells) }
     };
-    Matrix { columns, rows: (0..reads).map(|_| row(random)).collect() }
+    Matrix::new(columns, (0..reads).map(|_| row(random)).collect())
 }
 
 /// Few reads, long and short ones.
@@ -92,7 +130,7 @@ fn long(random: &mut Random, style: Style) -> Matrix {
         let longest = random.pick(&[3, 20, columns]);
         style.row_within(random, 0, columns, longest)
     });
-    Matrix { columns, rows: rows.collect() }
+    Matrix::new(columns, rows.collect())
 }
 
 /// A row with every letter exchanged.
@@ -101,8 +139,8 @@ pub fn complement(row: &Row) -> Row {
     Row { first: row.first, cells: cells.collect() }
 }
 
-fn tied(random: &mut Random) -> Matrix {
-    let weights = random.pick(&[Weights::Always(1), Weights::Always(0), Weights::UpTo(1), Weights::UpTo(2)]);
+fn tied(version: u8, random: &mut Random) -> Matrix {
+    let weights = random.pick(equal_weights(version));
     let mut matrix = scattered(random, Style { gaps: Gaps::OneIn(3), weights });
     for i in 1..matrix.rows.len() {
         let earlier = &matrix.rows[random.within(0, i - 1)];
@@ -133,7 +171,7 @@ fn apart(random: &mut Random, style: Style) -> Matrix {
         style.row_within(random, low, low + width, width)
     };
     let reads = random.within(1, 9);
-    Matrix { columns, rows: (0..reads).map(|_| row(random)).collect() }
+    Matrix::new(columns, (0..reads).map(|_| row(random)).collect())
 }
 
 /// Reads that nearly all cover one column, many of them only by their gap.
@@ -149,7 +187,7 @@ fn crowded(random: &mut Random, style: Style) -> Matrix {
         }
     };
     let reads = random.within(11, 14);
-    Matrix { columns, rows: (0..reads).map(|_| row(random)).collect() }
+    Matrix::new(columns, (0..reads).map(|_| row(random)).collect())
 }
 
 /// At most how many reads may be active at each column: more in one part than elsewhere.
@@ -161,14 +199,14 @@ fn limits(random: &mut Random, columns: usize, most: usize) -> Vec<usize> {
 }
 
 /// Many reads, but at most so many active at a column; where no place is found for one, it has no cells.
-fn layered(random: &mut Random, reads: usize, most_active: usize) -> Matrix {
+fn layered(version: u8, random: &mut Random, reads: usize, most_active: usize) -> Matrix {
     let widest = random.pick(&[40, 1024, 1024]);
     let (columns, reads) = (random.within(widest / 40, widest), random.within(reads / 8, reads));
     let most_active = random.within(1, most_active);
     let mut left = limits(random, columns, most_active);
     let longest = (3 * most_active * columns / reads).clamp(1, columns);
     let gaps = [Gaps::None, Gaps::Pair, Gaps::OneIn(3)];
-    let weights = [Weights::UpTo(255), Weights::UpTo(3), Weights::ZeroButOneIn(3)];
+    let weights = [any_weights(version), &[Weights::ZeroButOneIn(3)]].concat();
     let mut row = |random: &mut Random| {
         let style = Style { gaps: random.pick(&gaps), weights: random.pick(&weights) };
         let row = style.row_within(random, 0, columns, longest);
@@ -179,5 +217,5 @@ fn layered(random: &mut Random, reads: usize, most_active: usize) -> Matrix {
         span.iter_mut().for_each(|left| *left -= 1);
         row
     };
-    Matrix { columns, rows: (0..reads).map(|_| row(random)).collect() }
+    Matrix::new(columns, (0..reads).map(|_| row(random)).collect())
 }

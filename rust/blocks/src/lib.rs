@@ -8,4 +8,4 @@ mod rows;
 pub use damage::Field;
 pub use kinds::{Kind, complement};
 pub use random::Random;
-pub use rows::{Gaps, Style, Weights};
+pub use rows::{EDGES, Gaps, Style, Weights};

@@ -13,11 +13,15 @@ pub enum Gaps {
     OneIn(usize),
 }
 
+/// Weights at which a byte or a sum of 16 bits turns over.
+pub const EDGES: [u16; 12] = [0, 1, 255, 256, 257, 511, 512, 4096, 32767, 32768, 65280, 65535];
+
 /// Which weights entries have.
 #[derive(Clone, Copy)]
 pub enum Weights {
     UpTo(usize),
-    Always(u8),
+    Always(u16),
+    OneOf(&'static [u16]),
     /// 0, but for one entry in so many
     ZeroButOneIn(usize),
 }
@@ -29,11 +33,12 @@ pub struct Style {
 }
 
 impl Style {
-    fn weight(&self, random: &mut Random) -> u8 {
+    fn weight(&self, random: &mut Random) -> u16 {
         match self.weights {
-            Weights::UpTo(most) => random.within(0, most) as u8,
+            Weights::UpTo(most) => random.within(0, most) as u16,
             Weights::Always(weight) => weight,
-            Weights::ZeroButOneIn(times) if random.one_in(times) => random.within(1, 3) as u8,
+            Weights::OneOf(weights) => random.pick(weights),
+            Weights::ZeroButOneIn(times) if random.one_in(times) => random.within(1, 3) as u16,
             Weights::ZeroButOneIn(_) => 0,
         }
     }

@@ -1,6 +1,6 @@
 //! A matrix as a fragment block.
 
-use crate::{Cell, Matrix, Row};
+use crate::{Cell, Matrix, Row, cell_bytes};
 use solver::{Block, Numbers, Read};
 
 fn put(block: &mut Vec<u8>, number: usize) {
@@ -9,17 +9,21 @@ fn put(block: &mut Vec<u8>, number: usize) {
 }
 
 impl Matrix {
-    /// The fragment block of version 1. Nothing is checked but that each number fits its bytes.
+    /// The fragment block in the matrix's version. Nothing is checked but that each number fits its bytes.
     pub fn block(&self) -> Vec<u8> {
-        let mut block = vec![1, 0, 0, 0, 0];
+        let mut block = vec![self.version, 0, 0, 0, 0];
         put(&mut block, self.columns);
         put(&mut block, self.rows.len());
         for Row { first, cells } in &self.rows {
-            put(&mut block, 2 + 2 * cells.len());
+            put(&mut block, 2 + cell_bytes(self.version) * cells.len());
             put(&mut block, *first);
             for cell in cells {
                 let (letter, weight) = cell.unwrap_or((2, 0));
-                block.extend([letter, weight]);
+                block.push(letter);
+                match self.version {
+                    1 => block.push(u8::try_from(weight).expect("a weight of one byte")),
+                    _ => block.extend(weight.to_be_bytes()),
+                }
             }
         }
         set_length(&mut block);
@@ -29,12 +33,13 @@ impl Matrix {
     /// The matrix of a fragment block, or the refusal, 1 to 8, and its second number.
     pub fn read(block: &[u8]) -> Result<Self, Numbers> {
         let block = Block::read(block)?;
-        let cell = |cell: &[u8]| -> Cell { (cell[0] < 2).then_some((cell[0], cell[1])) };
+        let cell = |(letter, weight): (u8, u32)| -> Cell { (letter < 2).then_some((letter, weight as u16)) };
         let row = |read: &Read| Row {
             first: usize::from(read.first),
-            cells: block.cells(read).chunks_exact(2).map(cell).collect(),
+            cells: block.cells(read).map(cell).collect(),
         };
-        Ok(Matrix { columns: block.columns, rows: block.reads.iter().map(row).collect() })
+        let rows = block.reads.iter().map(row).collect();
+        Ok(Matrix { version: block.version(), columns: block.columns, rows })
     }
 }
 

@@ -7,6 +7,8 @@ use std::fmt;
 #[derive(Clone, Debug, PartialEq, Eq)]
 pub enum Fault {
     Entry { row: usize, entry: usize, word: String },
+    /// a weight that version 1 has no room for
+    Weight { row: usize, entry: usize, weight: u16 },
     EmptyRow { row: usize },
     LongRow { row: usize, entries: usize, columns: usize },
     NoColumns,
@@ -19,8 +21,11 @@ impl fmt::Display for Fault {
         match self {
             Fault::Entry { row, entry, word } => write!(
                 f,
-                "row {row}, entry {entry}: '{word}' is neither '.' nor a letter 0 or 1, ':' and a weight 0 to 255"
+                "row {row}, entry {entry}: '{word}' is neither '.' nor a letter 0 or 1, ':' and a weight 0 to 65535"
             ),
+            Fault::Weight { row, entry, weight } => {
+                write!(f, "row {row}, entry {entry}: weight {weight} is above 255, which takes version 2")
+            }
             Fault::EmptyRow { row } => write!(f, "row {row} is empty: a read without cells is written '.'"),
             Fault::LongRow { row, entries, columns } => {
                 write!(f, "row {row} has {entries} entries, columns given: {columns}")
@@ -35,7 +40,7 @@ impl fmt::Display for Fault {
 impl std::error::Error for Fault {}
 
 /// A number without sign and without needless zeros.
-fn weight(digits: &str) -> Option<u8> {
+fn weight(digits: &str) -> Option<u16> {
     let plain = digits.bytes().all(|b| b.is_ascii_digit()) && (digits == "0" || !digits.starts_with('0'));
     if plain { digits.parse().ok() } else { None }
 }
@@ -85,7 +90,7 @@ fn rows(text: &str) -> Vec<&str> {
     rows
 }
 
-/// The matrix that a text stands for. Columns that no row reaches have to be given.
+/// The matrix that a text stands for, in the version that its weights need. Columns that no row reaches have to be given.
 pub fn parse(text: &str, columns: Option<usize>) -> Result<Matrix, Fault> {
     let texts = if text.trim().is_empty() { Vec::new() } else { rows(text) };
     let lines = texts.iter().enumerate().map(|(i, text)| line(i + 1, text));
@@ -101,7 +106,7 @@ pub fn parse(text: &str, columns: Option<usize>) -> Result<Matrix, Fault> {
     if let Some(i) = lines.iter().position(|line| line.len() > columns) {
         return Err(Fault::LongRow { row: i + 1, entries: lines[i].len(), columns });
     }
-    Ok(Matrix { columns, rows: lines.iter().map(|line| row(line)).collect() })
+    Ok(Matrix::new(columns, lines.iter().map(|line| row(line)).collect()))
 }
 
 impl fmt::Display for Matrix {

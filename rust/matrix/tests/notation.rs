@@ -1,4 +1,4 @@
-//! The notation to blocks and back: P1 to P9, and texts that are no matrix.
+//! The notation to blocks and back: P1 to P9, weights of two bytes, and texts that are no matrix.
 
 use matrix::{Matrix, parse};
 
@@ -43,6 +43,39 @@ fn p1_to_p9_come_back_from_block_and_text() {
         assert_eq!(matrix.to_string().split_whitespace().collect::<Vec<_>>().join(" "), text);
         assert_eq!(parse(&matrix.to_string(), columns), Ok(matrix));
     }
+}
+
+/// Matrices in version 2: the text, the block in hexadecimal.
+const WIDE: [(&str, &str); 4] = [
+    (
+        "0:5 . / 1:3 0:2 / 1:6 1:1 / . 0:2",
+        "02000000260002000400050000000005000800000100030000020008000001000601000100050001000002",
+    ),
+    ("0:256 . 1:65535", "020000001100030001000b000000010002000001ffff"),
+    ("0:0 1:255 0:257", "020000001100030001000b00000000000100ff000101"),
+    (". / 0:7", "020000000f000100020002000000050000000007"),
+];
+
+#[test]
+fn weights_of_two_bytes_are_written_and_come_back() {
+    for (text, block) in WIDE {
+        let (block, matrix) = (bytes(block), parse(text, None).unwrap().in_version(2).unwrap());
+        assert_eq!(matrix.block(), block, "{text}");
+        let read = Matrix::read(&block).unwrap();
+        assert_eq!(read, matrix, "{text}");
+        assert_eq!(read.to_string().split_whitespace().collect::<Vec<_>>().join(" "), text);
+    }
+}
+
+#[test]
+fn the_version_is_the_least_that_holds_the_weights() {
+    assert_eq!(parse("0:255 / 1:0", None).unwrap().version, 1);
+    assert_eq!(parse("0:255 / . 1:256", None).unwrap().version, 2);
+    assert_eq!(parse("0:65535", None).unwrap().version, 2);
+    let fault = parse("0:255 / . 0:1 1:256", None).unwrap().in_version(1).unwrap_err();
+    assert_eq!(fault.to_string(), "row 2, entry 3: weight 256 is above 255, which takes version 2");
+    let narrow = parse("0:255", None).unwrap();
+    assert_eq!(narrow.clone().in_version(2).unwrap().in_version(1), Ok(narrow));
 }
 
 #[test]
@@ -91,7 +124,7 @@ fn a_text_that_is_no_matrix_is_refused_with_its_place() {
     let faults = [
         ("0:5 / 1:3 x", "row 2, entry 2: 'x' is neither"),
         ("2:5", "row 1, entry 1: '2:5' is neither"),
-        ("0:256", "row 1, entry 1: '0:256' is neither"),
+        ("0:65536", "row 1, entry 1: '0:65536' is neither"),
         ("0:", "row 1, entry 1: '0:' is neither"),
         ("0:+5", "row 1, entry 1: '0:+5' is neither"),
         ("0:05", "row 1, entry 1: '0:05' is neither"),

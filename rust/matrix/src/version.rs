@@ -1,0 +1,37 @@
+//! The versions of the fragment block: weights of one byte, and of two.
+
+use crate::{Fault, Matrix, Row};
+
+pub const VERSIONS: [u8; 2] = [1, 2];
+
+/// The bytes of a cell: a letter, and a weight of one byte in version 1, of two in version 2.
+pub fn cell_bytes(version: u8) -> usize {
+    if version == 1 { 2 } else { 3 }
+}
+
+/// The first entry with a weight above 255: its row, its column and the weight.
+fn heavy(rows: &[Row]) -> Option<(usize, usize, u16)> {
+    rows.iter().enumerate().find_map(|(read, row)| {
+        let mut weights = row.cells.iter().map(|cell| cell.map_or(0, |(_, weight)| weight));
+        let i = weights.position(|weight| weight > 255)?;
+        Some((read, row.first + i, row.cells[i]?.1))
+    })
+}
+
+impl Matrix {
+    /// A matrix, in version 2 if some weight is above 255 and in version 1 if none is.
+    pub fn new(columns: usize, rows: Vec<Row>) -> Self {
+        let version = if heavy(&rows).is_some() { 2 } else { 1 };
+        Matrix { version, columns, rows }
+    }
+
+    /// The same matrix in this version, unless a weight does not fit.
+    pub fn in_version(self, version: u8) -> Result<Self, Fault> {
+        match heavy(&self.rows) {
+            Some((read, column, weight)) if version == 1 => {
+                Err(Fault::Weight { row: read + 1, entry: column + 1, weight })
+            }
+            _ => Ok(Matrix { version, ..self }),
+        }
+    }
+}

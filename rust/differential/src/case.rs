@@ -30,6 +30,8 @@ impl Size {
 
 pub struct Case {
     pub kind: Kind,
+    /// of the block before it is damaged
+    pub version: u8,
     pub field: Option<Field>,
     pub block: Vec<u8>,
     pub work: (Size, usize),
@@ -44,9 +46,9 @@ pub fn size(need: usize, random: &mut Random) -> (Size, usize) {
 }
 
 /// The block of a matrix of this kind that has such a field, damaged there.
-fn damaged(kind: Kind, field: Field, random: &mut Random) -> Vec<u8> {
+fn damaged(kind: Kind, version: u8, field: Field, random: &mut Random) -> Vec<u8> {
     loop {
-        let matrix = kind.matrix(random);
+        let matrix = kind.matrix(version, random);
         if let Some(block) = field.damaged(&matrix, random) {
             return block;
         }
@@ -54,16 +56,16 @@ fn damaged(kind: Kind, field: Field, random: &mut Random) -> Vec<u8> {
 }
 
 impl Case {
-    /// A block of a kind, whole or with one field damaged, in rooms of any size.
-    pub fn random(kind: Kind, field: Option<Field>, random: &mut Random) -> Self {
+    /// A block of a kind in a version, whole or with one field damaged, in rooms of any size.
+    pub fn random(kind: Kind, version: u8, field: Option<Field>, random: &mut Random) -> Self {
         let block = match field {
-            Some(field) => damaged(kind, field, random),
-            None => kind.matrix(random).block(),
+            Some(field) => damaged(kind, version, field, random),
+            None => kind.matrix(version, random).block(),
         };
         // a refused block needs no room: then the rooms are as for some small one
         let (entries, length) = solver::rooms(&block).unwrap_or((60, 40));
         let (work, out) = (size(entries, random), size(length, random));
-        Case { kind, field, block, work, out }
+        Case { kind, version, field, block, work, out }
     }
 
     /// T, for a block that passes checks 1 to 9.

@@ -86,5 +86,6 @@ pub fn check(
 /// The proved call, compared on a case.
 pub fn check_case(case: &Case, random: &mut Random) -> Result<(Numbers, bool), String> {
     let checked = check(proved, &case.block, case.work.1, case.out.1, random);
-    checked.map_err(|fault| format!("{:?}, damaged {:?}: {fault}", case.kind, case.field))
+    let Case { kind, version, field, .. } = case;
+    checked.map_err(|fault| format!("{kind:?}, version {version}, damaged {field:?}: {fault}"))
 }

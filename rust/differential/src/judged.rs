@@ -75,8 +75,8 @@ pub fn check_judge(
 /// The proved judging, compared on a case.
 pub fn check_judging(case: &Judging, random: &mut Random) -> Result<(Numbers, bool), String> {
     let said = |fault: String| {
-        let Judging { kind, field, builder, faults, .. } = case;
-        format!("{kind:?}, damaged {field:?}, answer {builder:?} with {faults:?}: {fault}")
+        let Judging { kind, version, field, builder, faults, .. } = case;
+        format!("{kind:?}, version {version}, damaged {field:?}, answer {builder:?} with {faults:?}: {fault}")
     };
     let checked = check_judge(proved_judge, &case.block, &case.answer, case.work.1, random).map_err(said)?;
     match case.possible(checked.0.0) {

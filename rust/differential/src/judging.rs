@@ -7,6 +7,8 @@ use matrix::Matrix;
 
 pub struct Judging {
     pub kind: Kind,
+    /// of the block before it is damaged
+    pub version: u8,
     /// what is damaged in the block
     pub field: Option<Field>,
     pub builder: Builder,
@@ -35,9 +37,9 @@ fn answer(builder: Builder, faults: &mut Vec<Fault>, matrix: &Matrix, random: &m
 }
 
 impl Judging {
-    /// An answer of this builder, or one with any sides where it has none, to a block of a kind, whole or damaged.
-    pub fn random(kind: Kind, field: Option<Field>, builder: Builder, random: &mut Random) -> Self {
-        let matrix = kind.matrix(random);
+    /// An answer of this builder, or one with any sides where it has none, to a block of a kind in a version, whole or damaged.
+    pub fn random(kind: Kind, version: u8, field: Option<Field>, builder: Builder, random: &mut Random) -> Self {
+        let matrix = kind.matrix(version, random);
         let damaged = field.and_then(|field| Some((field, field.damaged(&matrix, random)?)));
         let (field, block) = damaged.map_or((None, matrix.block()), |(field, block)| (Some(field), block));
         let mut faults = faults(random);
@@ -46,7 +48,7 @@ impl Judging {
             None => (Builder::AnySides, answer(Builder::AnySides, &mut faults, &matrix, random).expect("any sides")),
         };
         let (entries, _) = solver::rooms(&block).unwrap_or((60, 40));
-        Judging { kind, field, builder, faults, block, answer, work: size(entries, random) }
+        Judging { kind, version, field, builder, faults, block, answer, work: size(entries, random) }
     }
 
     /// Whether a number can be, by how the case was made.

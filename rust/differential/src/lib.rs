@@ -13,7 +13,7 @@ mod tally;
 
 pub use builder::Builder;
 pub use case::{Case, Size};
-pub use check::{Call, check, check_case, proved};
+pub use check::{Call, check, check_case, proved, searchable};
 pub use fault::Fault;
 pub use judged::{Judge, check_judge, check_judging, proved_judge};
 pub use judging::Judging;

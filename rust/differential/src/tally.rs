@@ -20,6 +20,7 @@ impl Tally {
     /// Notes a case and what came of it: the numbers and whether every division was tried, or what differs.
     pub fn note(&mut self, case: &Case, checked: Result<(Numbers, bool), String>) {
         self.count("kind", case.kind);
+        self.count("version", case.version);
         if let Some(field) = case.field {
             self.count("damaged", field);
         }
@@ -33,6 +34,7 @@ impl Tally {
     /// Notes a judged answer and what came of it.
     pub fn note_judging(&mut self, case: &Judging, checked: Result<(Numbers, bool), String>) {
         self.count("kind", case.kind);
+        self.count("version", case.version);
         if let Some(field) = case.field {
             self.count("damaged", field);
         }

@@ -1,7 +1,7 @@
 //! The solver that forgets a read in its gap, against the method that it is said to be and against what that must mean.
 
 use blocks::{Kind, Random};
-use matrix::{Matrix, Row, parse};
+use matrix::{Matrix, Row, VERSIONS, parse};
 use std::collections::BTreeMap;
 
 /// What the solver gives: the cost and the answer block. None where it refuses the block.
@@ -14,7 +14,7 @@ fn forgetful(block: &[u8]) -> Option<(u32, Vec<u8>)> {
 }
 
 /// Read and entry of each read that has a letter at a column.
-fn entries(matrix: &Matrix, column: usize) -> Vec<(usize, (u8, u8))> {
+fn entries(matrix: &Matrix, column: usize) -> Vec<(usize, (u8, u16))> {
     let entry = |(read, row): (usize, &Row)| {
         let cell = column.checked_sub(row.first).and_then(|i| row.cells.get(i));
         Some((read, cell.copied().flatten()?))
@@ -60,7 +60,7 @@ fn its_cost_is_that_of_columns_that_know_only_reads_with_a_letter() {
     let mut random = Random::new(18);
     let (mut compared, mut less) = (0, 0);
     for i in 0..900 {
-        let matrix = Kind::SMALL[i % Kind::SMALL.len()].matrix(&mut random);
+        let matrix = Kind::SMALL[i % Kind::SMALL.len()].matrix(VERSIONS[i % 2], &mut random);
         let crowd = (0..matrix.columns).map(|column| entries(&matrix, column).len()).max().unwrap();
         if let (Some((cost, _)), 0..=6) = (forgetful(&matrix.block()), crowd) {
             assert_eq!(cost, least_by_columns(&matrix), "{matrix}");
@@ -78,7 +78,7 @@ fn it_is_right_without_gaps_and_stated_below_the_least_cost_it_never_passes() {
     let (mut gapless, mut less) = (0, 0);
     for i in 0..2000 {
         let kind = if i % 100 == 0 { random.pick(&Kind::LARGE) } else { random.pick(&Kind::SMALL) };
-        let matrix = kind.matrix(&mut random);
+        let matrix = kind.matrix(random.pick(&VERSIONS), &mut random);
         let block = matrix.block();
         let Some((cost, answer)) = forgetful(&block) else {
             continue;
@@ -102,8 +102,10 @@ fn it_is_right_without_gaps_and_stated_below_the_least_cost_it_never_passes() {
 fn more_runs_than_a_block_has_reads_find_room() {
     let cells = |from: usize| (0..1023).map(|i| (i % 2 == 0).then_some(((i + from) as u8 / 3 % 2, 9))).collect();
     let rows = (0..6).map(|i| Row { first: i % 2, cells: cells(i) }).collect();
-    let matrix = Matrix { columns: 1024, rows };
-    let (cost, _) = forgetful(&matrix.block()).unwrap();
-    assert_eq!(cost, 0, "entries apart can all be on the side that they agree with");
-    assert!(velejume::phase(&matrix.block()).unwrap().cost > 0);
+    let matrix = Matrix::new(1024, rows);
+    for block in VERSIONS.map(|version| matrix.clone().in_version(version).unwrap().block()) {
+        let (cost, _) = forgetful(&block).unwrap();
+        assert_eq!(cost, 0, "entries apart can all be on the side that they agree with");
+        assert!(velejume::phase(&block).unwrap().cost > 0);
+    }
 }

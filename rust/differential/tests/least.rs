@@ -2,7 +2,7 @@
 
 use blocks::{Gaps, Random, Style, Weights};
 use differential::Parts;
-use matrix::Matrix;
+use matrix::{Matrix, VERSIONS};
 use velejume::{Verdict, judge};
 
 /// All runs of so many marks below a limit.
@@ -66,15 +66,19 @@ fn every_answer(matrix: &Matrix) -> [usize; 5] {
 #[test]
 fn every_answer_to_a_tiny_block_is_least_exactly_where_56_and_57_say_so() {
     let mut random = Random::new(15);
-    let mut total = [0; 5];
-    for i in 0..60 {
-        let style = Style { gaps: Gaps::Pair, weights: [Weights::UpTo(2), Weights::UpTo(9)][i % 2] };
-        let columns = 1 + i % 3;
-        let rows = (0..i % 4).map(|_| style.row_within(&mut random, 0, columns, columns)).collect();
-        let counts = every_answer(&Matrix { columns, rows });
-        assert_eq!(counts[4], 1, "one answer is ours");
-        total = std::array::from_fn(|i| total[i] + counts[i]);
+    let narrow = [Weights::UpTo(2), Weights::UpTo(9)];
+    let wide = [Weights::OneOf(&[0, 1, 256, 65535]), Weights::OneOf(&[255, 256, 511])];
+    for (version, weights) in VERSIONS.into_iter().zip([narrow, wide]) {
+        let mut total = [0; 5];
+        for i in 0..60 {
+            let style = Style { gaps: Gaps::Pair, weights: weights[i % 2] };
+            let columns = 1 + i % 3;
+            let rows = (0..i % 4).map(|_| style.row_within(&mut random, 0, columns, columns)).collect();
+            let counts = every_answer(&Matrix { version, columns, rows });
+            assert_eq!(counts[4], 1, "one answer is ours");
+            total = std::array::from_fn(|i| total[i] + counts[i]);
+        }
+        println!("version {version}, verdicts 53 to 57: {total:?}");
+        assert!([0, 2, 3, 4].iter().all(|&i| total[i] >= 60), "{total:?}");
     }
-    println!("verdicts 53 to 57: {total:?}");
-    assert!([0, 2, 3, 4].iter().all(|&i| total[i] >= 60), "{total:?}");
 }

@@ -1,8 +1,8 @@
-//! Both sides of each limit of document 01, with the numbers that it gives.
+//! Both sides of each limit of documents 01 and 02, in both versions, with the numbers that they give.
 
 use blocks::{Gaps, Random, Style, Weights};
 use differential::{check, proved};
-use matrix::{Matrix, Row, set_length};
+use matrix::{Matrix, Row, VERSIONS, cell_bytes, set_length};
 use velejume::{OUTPUT_BYTES, WORK_ENTRIES};
 
 /// The numbers of a block in rooms of these sizes, once all agree on them.
@@ -18,24 +18,31 @@ fn ample(block: &[u8]) -> (u32, u32) {
     numbers(block, WORK_ENTRIES, OUTPUT_BYTES)
 }
 
-/// So many reads over all columns, of entries 1:1.
-fn full(columns: usize, reads: usize) -> Matrix {
-    let row = Row { first: 0, cells: vec![Some((1, 1)); columns] };
-    Matrix { columns, rows: vec![row; reads] }
+/// The heaviest weight of a version.
+fn heaviest(version: u8) -> u16 {
+    if version == 1 { 255 } else { 65535 }
+}
+
+/// So many reads over all columns, of entries of letter 1 at the heaviest weight.
+fn full(version: u8, columns: usize, reads: usize) -> Matrix {
+    let row = Row { first: 0, cells: vec![Some((1, heaviest(version))); columns] };
+    Matrix { version, columns, rows: vec![row; reads] }
 }
 
 #[test]
 fn columns_1024_and_1025() {
-    assert_eq!(ample(&full(1024, 2).block()), (0, 0));
-    assert_eq!(ample(&full(1025, 2).block()), (4, 0));
-    assert_eq!(ample(&full(1, 1).block()), (0, 0));
-    assert_eq!(ample(&Matrix { columns: 0, rows: Vec::new() }.block()), (4, 0));
+    for version in VERSIONS {
+        assert_eq!(ample(&full(version, 1024, 2).block()), (0, 0));
+        assert_eq!(ample(&full(version, 1025, 2).block()), (4, 0));
+        assert_eq!(ample(&full(version, 1, 1).block()), (0, 0));
+        assert_eq!(ample(&full(version, 0, 0).block()), (4, 0));
+    }
 }
 
 #[test]
 fn reads_1024_and_1025() {
-    for columns in [1, 3, 1024] {
-        let reads = |n| Matrix { columns, rows: vec![Row::default(); n] };
+    for (version, columns) in VERSIONS.into_iter().flat_map(|version| [1, 3, 1024].map(|m| (version, m))) {
+        let reads = |n| Matrix { version, columns, rows: vec![Row::default(); n] };
         assert_eq!(ample(&reads(1024).block()), (0, 0));
         assert_eq!(ample(&reads(1025).block()), (4, 0));
     }
@@ -43,84 +50,178 @@ fn reads_1024_and_1025() {
 
 #[test]
 fn active_reads_12_and_13_the_last_only_by_its_gap() {
-    let pair = Style { gaps: Gaps::Pair, weights: Weights::Always(1) };
-    let mut matrix = full(9, 11);
-    matrix.rows.iter_mut().for_each(|row| (row.first, row.cells) = (4, vec![Some((0, 1))]));
-    matrix.rows.push(pair.row(&mut Random::new(1), 0, 9));
-    assert_eq!(ample(&matrix.block()).0, 0);
-    matrix.rows.push(pair.row(&mut Random::new(2), 1, 7));
-    assert_eq!(ample(&matrix.block()), (9, 4));
-    matrix.rows[12] = pair.row(&mut Random::new(2), 0, 4);
-    assert_eq!(ample(&matrix.block()).0, 0);
+    for version in VERSIONS {
+        let pair = Style { gaps: Gaps::Pair, weights: Weights::Always(heaviest(version)) };
+        let mut matrix = full(version, 9, 11);
+        matrix.rows.iter_mut().for_each(|row| (row.first, row.cells) = (4, vec![Some((0, 1))]));
+        matrix.rows.push(pair.row(&mut Random::new(1), 0, 9));
+        assert_eq!(ample(&matrix.block()).0, 0);
+        matrix.rows.push(pair.row(&mut Random::new(2), 1, 7));
+        assert_eq!(ample(&matrix.block()), (9, 4));
+        matrix.rows[12] = pair.row(&mut Random::new(2), 0, 4);
+        assert_eq!(ample(&matrix.block()).0, 0);
+    }
 }
 
 #[test]
 fn crowds_of_13_to_1024_reads() {
     for reads in [13, 255, 256, 257, 268, 512, 1024] {
-        assert_eq!(ample(&full(2, reads).block()), (9, 0));
+        for version in VERSIONS {
+            assert_eq!(ample(&full(version, 2, reads).block()), (9, 0));
+        }
     }
 }
 
 #[test]
 fn bytes_8_and_9() {
-    let block = Matrix { columns: 1, rows: Vec::new() }.block();
-    assert_eq!(ample(&block), (0, 0));
-    assert_eq!(ample(&block[..8]), (1, 0));
+    for block in VERSIONS.map(|version| full(version, 1, 0).block()) {
+        assert_eq!(ample(&block), (0, 0));
+        assert_eq!(ample(&block[..8]), (1, 0));
+    }
     assert_eq!(ample(&[]), (1, 0));
 }
 
 #[test]
+fn versions_0_to_3() {
+    let mut block = full(1, 1, 0).block();
+    for (version, numbers) in [(0, (2, 0)), (1, (0, 0)), (2, (0, 0)), (3, (2, 0)), (255, (2, 0))] {
+        block[0] = version;
+        assert_eq!(ample(&block), numbers, "version {version}");
+    }
+}
+
+#[test]
 fn a_cell_in_the_last_column_and_one_past_it() {
-    let row = |first, cells| Matrix { columns: 3, rows: vec![Row { first, cells: vec![Some((1, 1)); cells] }] };
-    assert_eq!(ample(&row(1, 2).block()), (0, 0));
-    assert_eq!(ample(&row(2, 2).block()), (6, 0));
-    assert_eq!(ample(&row(65535, 1).block()), (6, 0));
-    assert_eq!(ample(&row(0, 0).block()), (0, 0));
-    assert_eq!(ample(&row(1, 0).block()), (6, 0));
+    for version in VERSIONS {
+        let rows = |first, cells| vec![Row { first, cells: vec![Some((1, 1)); cells] }];
+        let block = |first, cells| Matrix { version, columns: 3, rows: rows(first, cells) }.block();
+        assert_eq!(ample(&block(1, 2)), (0, 0));
+        assert_eq!(ample(&block(2, 2)), (6, 0));
+        assert_eq!(ample(&block(65535, 1)), (6, 0));
+        assert_eq!(ample(&block(0, 0)), (0, 0));
+        assert_eq!(ample(&block(1, 0)), (6, 0));
+    }
 }
 
 #[test]
 fn a_read_that_ends_with_the_block_and_one_past_it() {
-    let mut block = full(2, 2).block();
-    assert_eq!(ample(&block), (0, 0));
-    block.pop();
-    set_length(&mut block);
-    assert_eq!(ample(&block), (5, 1));
-    block.truncate(block.len() - 6);
-    set_length(&mut block);
-    assert_eq!(ample(&block), (5, 1));
-    block.extend([0; 9]);
-    set_length(&mut block);
-    assert_eq!(ample(&block), (5, 1));
+    for version in VERSIONS {
+        let mut block = full(version, 2, 2).block();
+        assert_eq!(ample(&block), (0, 0));
+        block.pop();
+        set_length(&mut block);
+        assert_eq!(ample(&block), (5, 1));
+        block.truncate(block.len() - 2 - 2 * cell_bytes(version));
+        set_length(&mut block);
+        assert_eq!(ample(&block), (5, 1), "one byte of its length field is left");
+        block.extend([0; 9]);
+        set_length(&mut block);
+        assert_eq!(ample(&block), (5, 1));
+    }
+}
+
+#[test]
+fn every_length_field_is_lawful_exactly_where_it_is_a_number_of_cells() {
+    for version in VERSIONS {
+        let (whole, cell) = (full(version, 1024, 1).block(), cell_bytes(version));
+        for length in 0..=2 + cell * 1024 + 8 {
+            let mut block = whole.clone();
+            block[9..11].copy_from_slice(&(length as u16).to_be_bytes());
+            let expected = match length {
+                0..2 => (5, 0),
+                _ if (length - 2) % cell != 0 || length > 2 + cell * 1024 => (5, 0),
+                _ if length < 2 + cell * 1024 => (8, 0), // the read is shorter, and bytes remain
+                _ => (0, 0),
+            };
+            assert_eq!(numbers(&block, 1024, 17 + 1 + 2048), expected, "version {version}, L = {length}");
+        }
+    }
+}
+
+#[test]
+fn a_hole_has_no_weight_in_either_byte() {
+    for version in VERSIONS {
+        let cells = vec![Some((0, 1)), None, Some((1, 1))];
+        let block = Matrix { version, columns: 3, rows: vec![Row { first: 0, cells }] }.block();
+        let hole = 13 + cell_bytes(version);
+        assert_eq!((block[hole], ample(&block)), (2, (0, 0)));
+        for at in hole + 1..hole + cell_bytes(version) {
+            for byte in [1, 128, 255] {
+                let mut weighted = block.clone();
+                weighted[at] = byte;
+                assert_eq!(ample(&weighted), (7, 0), "version {version}, byte {at}");
+            }
+        }
+        for (at, letter) in [(13, 2), (13, 3), (hole, 3), (hole, 255), (hole + cell_bytes(version), 2)] {
+            let mut other = block.clone();
+            other[at..at + cell_bytes(version)].fill(0);
+            other[at] = letter;
+            assert_eq!(ample(&other), (7, 0), "version {version}, letter {letter} at {at}");
+        }
+    }
 }
 
 #[test]
 fn rooms_just_large_enough_and_one_less() {
-    let (large, larger) = (full(128, 8).block(), full(129, 8).block());
-    assert_eq!(numbers(&large, 16384, 281), (0, 0));
-    assert_eq!(numbers(&large, 16383, 281), (10, 16384));
-    assert_eq!(numbers(&large, 16384, 280), (11, 281));
-    assert_eq!(numbers(&larger, 16384, 4096), (10, 16512));
+    for version in VERSIONS {
+        let (large, larger) = (full(version, 128, 8).block(), full(version, 129, 8).block());
+        assert_eq!(numbers(&large, 16384, 281), (0, 0));
+        assert_eq!(numbers(&large, 16383, 281), (10, 16384));
+        assert_eq!(numbers(&large, 16384, 280), (11, 281));
+        assert_eq!(numbers(&larger, 16384, 4096), (10, 16512));
+    }
+}
+
+/// 1,024 reads in 12 layers, each of which covers 1,024 columns.
+fn longest(version: u8) -> Matrix {
+    let layer = |reads: usize| (0..reads).map(move |i| i * 1024 / reads..(i + 1) * 1024 / reads);
+    let places = [85, 85, 85, 85, 85, 85, 85, 85, 86, 86, 86, 86].into_iter().flat_map(layer);
+    let cell = |column: usize| Some(((column / 7 % 2) as u8, heaviest(version)));
+    let rows = places.map(|place| Row { first: place.start, cells: place.map(cell).collect() });
+    Matrix { version, columns: 1024, rows: rows.collect() }
+}
+
+#[test]
+fn the_longest_blocks_with_12_active_reads() {
+    for (version, bytes) in VERSIONS.into_iter().zip([28_681, 40_969]) {
+        let block = longest(version).block();
+        assert_eq!((block.len(), block[7..9].to_vec()), (bytes, vec![4, 0]));
+        assert_eq!(ample(&block).0, 0);
+    }
 }
 
 #[test]
 fn the_largest_block_takes_all_of_the_rooms_that_suffice_for_every_one() {
-    let mut matrix = full(1024, 12);
-    matrix.rows.resize(1024, Row::default());
-    let block = matrix.block();
-    assert_eq!(ample(&block), (0, 0));
-    assert_eq!(numbers(&block, WORK_ENTRIES - 1, OUTPUT_BYTES), (10, WORK_ENTRIES as u32));
-    assert_eq!(numbers(&block, WORK_ENTRIES, OUTPUT_BYTES - 1), (11, OUTPUT_BYTES as u32));
+    for block in VERSIONS.map(|version| longest(version).block()) {
+        assert_eq!(ample(&block).0, 0);
+        assert_eq!(numbers(&block, WORK_ENTRIES - 1, OUTPUT_BYTES), (10, WORK_ENTRIES as u32));
+        assert_eq!(numbers(&block, WORK_ENTRIES, OUTPUT_BYTES - 1), (11, OUTPUT_BYTES as u32));
+    }
+}
+
+/// The least cost of the largest table with one weight in every entry, letters by read and column.
+fn cost_of(version: u8, weight: u16, letter: fn(usize, usize) -> usize) -> u32 {
+    let cells = |i: usize| (0..1024).map(|j| Some((letter(i, j) as u8, weight))).collect();
+    let rows = (0..12).map(|i| Row { first: 0, cells: cells(i) }).collect();
+    let (number, cost) = ample(&Matrix { version, columns: 1024, rows }.block());
+    assert_eq!(number, 0);
+    cost
+}
+
+/// 0 or 1, without a pattern that a division could serve.
+fn any(i: usize, j: usize) -> usize {
+    ((1024 * i + j) as u32).wrapping_mul(2_654_435_761) as usize >> 20 & 1
 }
 
 #[test]
-fn the_heaviest_column_of_12_reads() {
-    let row = |letter| Row { first: 0, cells: vec![Some((letter, 255)); 1024] };
-    let rows = |zeros| (0..12).map(|i| row(u8::from(i >= zeros))).collect();
-    assert_eq!(ample(&Matrix { columns: 1024, rows: rows(6) }.block()), (0, 0));
-    let mut mixed = Matrix { columns: 1024, rows: rows(6) };
-    for (i, row) in mixed.rows.iter_mut().enumerate() {
-        row.cells.iter_mut().enumerate().for_each(|(j, cell)| *cell = Some(((j >> (i % 4) & 1) as u8, 255)));
+fn the_heaviest_weight_in_every_entry_of_the_largest_table() {
+    let letters: [fn(usize, usize) -> usize; 3] = [|i, _| usize::from(i >= 6), |i, j| j >> (i % 4) & 1, any];
+    for letter in letters {
+        let light = cost_of(1, 1, letter);
+        println!("{light} entries disagree");
+        for version in VERSIONS {
+            assert_eq!(cost_of(version, heaviest(version), letter), light * u32::from(heaviest(version)));
+        }
     }
-    assert_eq!(ample(&mixed.block()).0, 0);
+    assert!(cost_of(2, 65535, any) > 1 << 27, "a cost that needs four bytes");
 }

@@ -2,6 +2,7 @@
 
 use blocks::{Kind, Random};
 use differential::{check, proved};
+use matrix::VERSIONS;
 
 /// The number that these rooms give to a block that needs so much.
 fn expected(need: (usize, usize), work: usize, out: usize) -> u32 {
@@ -34,8 +35,8 @@ fn rooms_of_every_size_get_what_they_should() {
     let mut random = Random::new(5);
     let mut total = [0; 3];
     for kind in Kind::SMALL {
-        for _ in 0..20 {
-            let block = kind.matrix(&mut random).block();
+        for version in VERSIONS.into_iter().cycle().take(20) {
+            let block = kind.matrix(version, &mut random).block();
             if let Some(need) = solver::rooms(&block).ok().filter(|need| need.0 <= 600) {
                 let counts = every_size(&block, need, &mut random);
                 total = std::array::from_fn(|i| total[i] + counts[i]);

@@ -2,6 +2,7 @@
 
 use blocks::{Field, Kind, Random};
 use differential::{Builder, Case, Judging};
+use matrix::VERSIONS;
 
 /// What the solver gives in rooms of just the size: the table and the answer block, or the numbers.
 fn solved(block: &[u8]) -> Result<(Vec<u32>, Vec<u8>), (u32, u32)> {
@@ -18,7 +19,7 @@ fn the_wrapper_gives_the_solvers_answers_and_refusals() {
     for i in 0..6000 {
         let kind = if i % 100 == 0 { random.pick(&Kind::LARGE) } else { random.pick(&Kind::SMALL) };
         let field = random.one_in(2).then(|| random.pick(&Field::ALL));
-        let block = Case::random(kind, field, &mut random).block;
+        let block = Case::random(kind, random.pick(&VERSIONS), field, &mut random).block;
         match (velejume::phase(&block), solved(&block)) {
             (Ok(answer), Ok((table, bytes))) => {
                 answers += 1;
@@ -43,7 +44,8 @@ fn the_wrapper_gives_the_solvers_verdicts_and_refusals() {
     for i in 0..4000 {
         let kind = if i % 100 == 0 { random.pick(&Kind::LARGE) } else { random.pick(&Kind::SMALL) };
         let field = random.one_in(3).then(|| random.pick(&Field::ALL));
-        let Judging { block, answer, .. } = Judging::random(kind, field, random.pick(&Builder::ALL), &mut random);
+        let (version, builder) = (random.pick(&VERSIONS), random.pick(&Builder::ALL));
+        let Judging { block, answer, .. } = Judging::random(kind, version, field, builder, &mut random);
         let mut work = vec![0; solver::rooms(&block).map_or(0, |need| need.0)];
         let wanted = solver::judge(solver::columns, &block, &answer, &mut work);
         let given = match velejume::judge(&block, &answer) {

@@ -1,7 +1,8 @@
-//! Judgings that are wrong in one thing each: the comparison finds every one.
+//! Judgings that are wrong in one thing each: the comparison finds every one in the cases of either version.
 
 use blocks::{Kind, Random};
 use differential::{Builder, Judge, Judging, check_judge, proved_judge};
+use matrix::VERSIONS;
 use velejume::phase_in;
 
 type Numbers = (u32, u32);
@@ -65,11 +66,11 @@ fn writes_on_refusal(block: &[u8], answer: &[u8], work: &mut [u32]) -> Numbers {
 }
 
 /// Whether a judging differs from the independent one in any of so many cases.
-fn found(judge: Judge) -> bool {
+fn found(judge: Judge, version: u8) -> bool {
     let mut random = Random::new(16);
     let mut case = || {
         let (kind, builder) = (random.pick(&Kind::SMALL), random.pick(&Builder::ALL));
-        let case = Judging::random(kind, None, builder, &mut random);
+        let case = Judging::random(kind, version, None, builder, &mut random);
         check_judge(judge, &case.block, &case.answer, case.work.1, &mut random).is_err()
     };
     (0..1000).any(|_| case())
@@ -77,7 +78,6 @@ fn found(judge: Judge) -> bool {
 
 #[test]
 fn each_wrong_judging_is_found() {
-    assert!(!found(proved_judge), "the proved judging is right");
     let wrong: [(&str, Judge); 7] = [
         ("counts flips", counts_flips),
         ("gives the stated cost", gives_the_stated_cost),
@@ -87,7 +87,10 @@ fn each_wrong_judging_is_found() {
         ("clears the rest", clears_the_rest),
         ("writes on refusal", writes_on_refusal),
     ];
-    for (name, judge) in wrong {
-        assert!(found(judge), "a judging that {name} passes");
+    for version in VERSIONS {
+        assert!(!found(proved_judge, version), "the proved judging is right");
+        for (name, judge) in wrong {
+            assert!(found(judge, version), "a judging that {name} passes in version {version}");
+        }
     }
 }

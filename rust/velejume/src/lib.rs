@@ -20,6 +20,11 @@
 //!
 //! let refusal = velejume::phase(&block[..36]).unwrap_err();
 //! assert_eq!(refusal, velejume::Refusal::Length);
+//!
+//! // in version 2 a weight has two bytes: 0:256 / 1:65535
+//! let wide = [2, 0, 0, 0, 18, 0, 1, 0, 2, 0, 5, 0, 0, 0, 1, 0, 0, 5, 0, 0, 1, 255, 255];
+//! let answer = velejume::phase(&wide).unwrap();
+//! assert_eq!((answer.cost, answer.table.column(0)), (0, &[256, 0][..]));
 //! ```
 
 mod answer;
@@ -38,8 +43,9 @@ pub const WORK_ENTRIES: usize = 1024 * 2048;
 /// Output bytes that suffice for every block: 1,024 reads and 1,024 columns.
 pub const OUTPUT_BYTES: usize = 17 + 1024 + 2 * 1024;
 
-/// Bytes that no fragment block of a matrix exceeds: 1,024 reads of 1,024 cells, two bytes a cell in version 1.
-pub const BLOCK_BYTES: usize = 9 + 1024 * (4 + 2 * 1024);
+/// Bytes that no fragment block of a matrix exceeds: 1,024 reads of 1,024 cells, three bytes a cell in version 2. With at most 12
+/// active reads a block has at most 40,969.
+pub const BLOCK_BYTES: usize = 9 + 1024 * (4 + 3 * 1024);
 
 /// Phases a fragment block. The rooms are as large as the call itself says that it needs.
 ///

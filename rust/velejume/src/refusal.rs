@@ -1,4 +1,4 @@
-//! Why a block is refused, in document 01's words.
+//! Why a block is refused, in the words of documents 01 and 02.
 
 use crate::Numbers;
 use std::fmt;
@@ -8,13 +8,13 @@ use std::fmt;
 pub enum Refusal {
     /// 1: fewer than 9 bytes.
     Short,
-    /// 2: version not 1.
+    /// 2: version neither 1 nor 2.
     Version,
     /// 3: length field differs from bytes present after byte 4.
     Length,
     /// 4: m = 0, m > 1,024 or n > 1,024.
     Size,
-    /// 5: a read's length field is cut off, L < 2, L is odd, or L runs past the block.
+    /// 5: a read's length field is cut off, L < 2, L is odd (in version 2: L − 2 is no multiple of 3), or L runs past the block.
     ReadLength { read: u32 },
     /// 6: c = 0 with first column not 0, or first + c > m.
     Columns { read: u32 },
@@ -82,12 +82,14 @@ impl fmt::Display for Refusal {
     fn fmt(&self, f: &mut fmt::Formatter) -> fmt::Result {
         match self {
             Refusal::Short => write!(f, "fewer than 9 bytes"),
-            Refusal::Version => write!(f, "version not 1"),
+            Refusal::Version => write!(f, "version neither 1 nor 2"),
             Refusal::Length => write!(f, "length field differs from bytes present after byte 4"),
             Refusal::Size => write!(f, "m = 0, m > 1,024 or n > 1,024"),
-            Refusal::ReadLength { read } => {
-                write!(f, "read {read}: length field is cut off, L < 2, L is odd, or L runs past the block")
-            }
+            Refusal::ReadLength { read } => write!(
+                f,
+                "read {read}: length field is cut off, L < 2, L is odd (in version 2: L − 2 is no multiple of 3), \
+                 or L runs past the block"
+            ),
             Refusal::Columns { read } => write!(f, "read {read}: c = 0 with first column not 0, or first + c > m"),
             Refusal::Cell { read } => {
                 write!(f, "read {read}: letter above 2, a hole with weight, first or last cell a hole")

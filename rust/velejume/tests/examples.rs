@@ -1,10 +1,14 @@
-//! P1 to P9, as `phase` prints them, and the tables of P1 and P2.
+//! P1 to P9 in both versions, as `phase` prints them, and the tables of P1 and P2.
 
-use matrix::parse;
+use matrix::{VERSIONS, parse};
 use velejume::{Answer, phase};
 
+/// The answer to a matrix, which is the same in both versions.
 fn answer(text: &str, columns: Option<usize>) -> Answer {
-    phase(&parse(text, columns).unwrap().block()).unwrap()
+    let matrix = parse(text, columns).unwrap();
+    let [narrow, wide] = VERSIONS.map(|version| phase(&matrix.clone().in_version(version).unwrap().block()).unwrap());
+    assert_eq!(narrow, wide, "{text}");
+    wide
 }
 
 #[test]
@@ -26,6 +30,14 @@ fn p1_to_p9_get_their_answers() {
         let lines = names.iter().zip(expected.split(", ")).map(|(name, value)| format!("{name} {value}\n"));
         assert_eq!(printed, lines.collect::<String>(), "{text}");
     }
+}
+
+#[test]
+fn weights_of_two_bytes_count_whole() {
+    let answer = phase(&parse("0:1025 . 1:768 / 0:1280 0:1280 0:1280 / 1:1280 1:1280 1:1280", None).unwrap().block());
+    let answer = answer.unwrap();
+    assert_eq!(answer.to_string(), "cost 768\nflips 1\nsides 001\nhap1 000\nhap2 111\n");
+    assert_eq!(answer.table.column(0), [1280, 1025, 0, 1280]);
 }
 
 #[test]

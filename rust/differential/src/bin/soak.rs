@@ -1,7 +1,8 @@
-//! soak SEED COUNT: so many random blocks of every kind, a third of them damaged, and as many judged answers.
+//! soak SEED COUNT: so many random blocks of every kind and version, a third of them damaged, and as many judged answers.
 
 use blocks::{Field, Kind, Random};
 use differential::{Builder, Case, Judging, Tally, check_case, check_judging};
+use matrix::VERSIONS;
 use std::process::ExitCode;
 
 fn main() -> ExitCode {
@@ -15,11 +16,11 @@ fn main() -> ExitCode {
     let (mut tally, mut judged) = (Tally::default(), Tally::default());
     for i in 0..count {
         let kinds: &[Kind] = if i % 50 == 0 { &Kind::LARGE } else { &Kind::SMALL };
-        let kind = random.pick(kinds);
+        let (kind, version) = (random.pick(kinds), random.pick(&VERSIONS));
         let field = random.one_in(3).then(|| random.pick(&Field::ALL));
-        let case = Case::random(kind, field, &mut random);
+        let case = Case::random(kind, version, field, &mut random);
         tally.note(&case, check_case(&case, &mut random));
-        let case = Judging::random(kind, field, random.pick(&Builder::ALL), &mut random);
+        let case = Judging::random(kind, version, field, random.pick(&Builder::ALL), &mut random);
         judged.note_judging(&case, check_judging(&case, &mut random));
     }
     println!("{tally}\n{judged}");

@@ -1,13 +1,13 @@
-//! The proved call beside two unproved ones, document 000's walk and one that takes eight entries at a step, on the same blocks in
-//! the same rooms, turn by turn.
+//! The proved call beside two unproved ones, document 000's walk and one that takes eight entries at a step, on the same blocks of
+//! both versions in the same rooms, turn by turn.
 
 mod shapes;
 mod table;
 mod time;
 
 use blocks::Gaps;
-use matrix::Matrix;
-use shapes::{empty, tiled};
+use matrix::{Matrix, VERSIONS};
+use shapes::{empty, p1, tiled};
 use table::Table;
 
 fn head(words: &[&str]) -> Vec<String> {
@@ -18,22 +18,29 @@ fn compared(name: &str, matrix: &Matrix) -> Vec<String> {
     let times = time::measure(&matrix.block());
     let micros = times.nanos.map(|nanos| format!("{:.2}", nanos / 1e3));
     let ratios = times.ratios.map(|ratio| format!("{ratio:.2}"));
-    [&[name.to_string()], &micros[..2], &ratios[..1], &micros[2..], &ratios[1..]].concat()
+    let names = [name.to_string(), matrix.version.to_string()];
+    [&names, &micros[..2], &ratios[..1], &micros[2..], &ratios[1..]].concat()
 }
 
+/// A block, by its version.
+type Shape = fn(u8) -> Matrix;
+
 fn comparison() -> Table {
-    let p1 = matrix::parse("0:5 . / 1:3 0:2 / 1:6 1:1 / . 0:2", None).expect("P1 is a matrix");
-    Table(vec![
-        head(&["block", "proved µs", "walk µs", "ratio", "by eights µs", "ratio"]),
-        compared("m 1024, A 12, reads of 1024", &tiled(1024, 12, 1024, Gaps::None)),
-        compared("m 1024, A 12, reads of 40 with holes", &tiled(1024, 12, 40, Gaps::OneIn(4))),
-        compared("m 1024, A 12, pairs of 120", &tiled(1024, 12, 120, Gaps::Pair)),
-        compared("m 1024, A 8, reads of 40", &tiled(1024, 8, 40, Gaps::None)),
-        compared("m 1024, A 4, n 1024", &tiled(1024, 4, 4, Gaps::None)),
-        compared("m 128, A 8, reads of 40", &tiled(128, 8, 40, Gaps::None)),
-        compared("P1", &p1),
-        compared("m 1024, n 1024, all empty", &empty(1024, 1024)),
-    ])
+    let shapes: [(&str, Shape); 8] = [
+        ("m 1024, A 12, reads of 1024", |version| tiled(version, 1024, 12, 1024, Gaps::None)),
+        ("m 1024, A 12, reads of 40 with holes", |version| tiled(version, 1024, 12, 40, Gaps::OneIn(4))),
+        ("m 1024, A 12, pairs of 120", |version| tiled(version, 1024, 12, 120, Gaps::Pair)),
+        ("m 1024, A 8, reads of 40", |version| tiled(version, 1024, 8, 40, Gaps::None)),
+        ("m 1024, A 4, n 1024", |version| tiled(version, 1024, 4, 4, Gaps::None)),
+        ("m 128, A 8, reads of 40", |version| tiled(version, 128, 8, 40, Gaps::None)),
+        ("P1", p1),
+        ("m 1024, n 1024, all empty", |version| empty(version, 1024, 1024)),
+    ];
+    let mut rows = vec![head(&["block", "version", "proved µs", "walk µs", "ratio", "by eights µs", "ratio"])];
+    for (name, shape) in shapes {
+        rows.extend(VERSIONS.map(|version| compared(name, &shape(version))));
+    }
+    Table(rows)
 }
 
 fn grown(name: String, matrix: &Matrix) -> Vec<String> {
@@ -44,23 +51,24 @@ fn grown(name: String, matrix: &Matrix) -> Vec<String> {
     vec![name, times.size.to_string(), micros(proved), micros(walk), each(proved), each(walk)]
 }
 
-/// Each of m, n and A doubles while the other two stay.
+/// Each of m, n and A doubles while the other two stay, in version 1.
 fn growth() -> Table {
     let mut rows = vec![head(&["block", "size", "proved µs", "walk µs", "proved ns", "walk ns"])];
     for m in [128, 256, 512, 1024] {
-        rows.push(grown(format!("m {m}, A 8"), &tiled(m, 8, 40, Gaps::None)));
+        rows.push(grown(format!("m {m}, A 8"), &tiled(1, m, 8, 40, Gaps::None)));
     }
     for n in [64, 128, 256, 512, 1024] {
-        rows.push(grown(format!("n {n}, m 1024, A 4"), &tiled(1024, 4, 4096 / n, Gaps::None)));
+        rows.push(grown(format!("n {n}, m 1024, A 4"), &tiled(1, 1024, 4, 4096 / n, Gaps::None)));
     }
     for a in [1, 2, 4, 8, 12] {
-        rows.push(grown(format!("A {a}, m 1024"), &tiled(1024, a, 48, Gaps::None)));
+        rows.push(grown(format!("A {a}, m 1024"), &tiled(1, 1024, a, 48, Gaps::None)));
     }
     Table(rows)
 }
 
 fn main() {
-    println!("Medians of {} rounds; the ratio is the median of the rounds' ratios.\n", time::ROUNDS);
+    println!("Medians of {} rounds; the ratio is the median of the rounds' ratios.", time::ROUNDS);
+    println!("Weights are any up to 255 in version 1, up to 65535 in version 2.\n");
     println!("{}", comparison());
     println!("Size is m × T entries and the bytes of the block together, ns are for one of them.\n");
     println!("{}", growth());

@@ -39,9 +39,9 @@ fn put_empty_reads(rows: &mut Vec<Row>, random: &mut Random) {
     }
 }
 
-/// A matrix with so many columns, and so many reads active where most are.
-pub fn matrix(kind: Kind, columns: usize, depth: usize, random: &mut Random) -> Matrix {
-    let reads = Reads::new(kind, columns, random);
+/// A matrix with so many columns, and so many reads active where most are, in this version.
+pub fn matrix(kind: Kind, version: u8, columns: usize, depth: usize, random: &mut Random) -> Matrix {
+    let reads = Reads::new(kind, version, columns, random);
     let mut rows = match kind {
         Kind::Apart => apart(&reads, columns, depth, random),
         _ => {
@@ -53,5 +53,5 @@ pub fn matrix(kind: Kind, columns: usize, depth: usize, random: &mut Random) -> 
     if kind == Kind::Empty {
         put_empty_reads(&mut rows, random);
     }
-    Matrix { columns, rows }
+    Matrix { version, columns, rows }
 }

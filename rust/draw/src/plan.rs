@@ -17,6 +17,8 @@ pub const DEPTH: RangeInclusive<usize> = 2..=12;
 pub struct Plan {
     pub seed: u64,
     pub count: usize,
+    /// of every block: in version 2 weights have two bytes
+    pub version: u8,
     /// in turn
     pub kinds: Vec<Kind>,
     /// m of every block; each has its own where none is given
@@ -35,13 +37,14 @@ impl Plan {
         format!("{number:06}-{}", self.kind(number).name())
     }
 
-    /// The matrix of a block. It depends on nothing but the seed, the number, the kind and what is given for all blocks.
+    /// The matrix of a block. It depends on nothing but the seed, the number, the kind and what is given for all blocks; in both
+    /// versions the same reads are drawn, with other weights.
     pub fn matrix(&self, number: usize) -> Matrix {
         let start = Random::new(self.seed).number();
         let mut random = Random::new(start.wrapping_add(number as u64));
         let (low, high) = random.pick(&[(3, 9), (6, 20), (15, 60), (40, 120)]);
         let columns = self.columns.unwrap_or(random.within(low, high));
         let depth = self.depth.unwrap_or(random.within(2, 8).max(random.within(2, 12)));
-        drawing::matrix(self.kind(number), columns, depth, &mut random)
+        drawing::matrix(self.kind(number), self.version, columns, depth, &mut random)
     }
 }

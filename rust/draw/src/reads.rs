@@ -3,7 +3,7 @@
 use crate::Kind;
 use crate::copies::Copies;
 use crate::layers::{Ground, over};
-use blocks::{Gaps, Random, Style, Weights, complement};
+use blocks::{EDGES, Gaps, Random, Style, Weights, complement};
 use matrix::Row;
 use std::ops::Range;
 
@@ -14,11 +14,15 @@ pub struct Reads {
     copies: Copies,
 }
 
-fn weights(kind: Kind, random: &mut Random) -> Weights {
-    match kind {
-        Kind::Ties => random.pick(&[Weights::Always(1), Weights::Always(9), Weights::UpTo(1), Weights::UpTo(2)]),
-        Kind::Weightless => Weights::ZeroButOneIn(random.within(3, 9)),
-        _ => random.pick(&[Weights::UpTo(255), Weights::UpTo(40), Weights::UpTo(9)]),
+fn weights(kind: Kind, version: u8, random: &mut Random) -> Weights {
+    let equal = [Weights::Always(1), Weights::Always(9), Weights::UpTo(1), Weights::UpTo(2)];
+    let wide_equal = [Weights::Always(256), Weights::Always(65535), Weights::OneOf(&[1, 256]), Weights::UpTo(2)];
+    match (kind, version) {
+        (Kind::Ties, 1) => random.pick(&equal),
+        (Kind::Ties, _) => random.pick(&wide_equal),
+        (Kind::Weightless, _) => Weights::ZeroButOneIn(random.within(3, 9)),
+        (_, 1) => random.pick(&[Weights::UpTo(255), Weights::UpTo(40), Weights::UpTo(9)]),
+        _ => random.pick(&[Weights::UpTo(65535), Weights::UpTo(4000), Weights::OneOf(&EDGES)]),
     }
 }
 
@@ -55,8 +59,8 @@ fn repeated(layer: &[Row], random: &mut Random) -> Vec<Row> {
 }
 
 impl Reads {
-    pub fn new(kind: Kind, columns: usize, random: &mut Random) -> Self {
-        Reads { kind, weights: weights(kind, random), copies: Copies::new(columns, random) }
+    pub fn new(kind: Kind, version: u8, columns: usize, random: &mut Random) -> Self {
+        Reads { kind, weights: weights(kind, version, random), copies: Copies::new(columns, random) }
     }
 
     /// A read at a place.

@@ -1,10 +1,10 @@
 //! Every kind, on every sort of ground: the columns and the depth that were asked for, and what the kind promises.
 
 use draw::{Kind, Plan};
-use matrix::{Cell, Matrix, Row};
+use matrix::{Cell, Matrix, Row, VERSIONS};
 
 fn plan(kind: Kind, seed: u64, columns: Option<usize>, depth: Option<usize>) -> Plan {
-    Plan { seed, count: 1, kinds: vec![kind], columns, depth }
+    Plan { seed, count: 1, version: 1, kinds: vec![kind], columns, depth }
 }
 
 /// The runs of holes of a read, as first and last column.
@@ -42,7 +42,7 @@ fn has_repeated_read(matrix: &Matrix) -> bool {
 
 /// Whether at most half of the entries have a weight.
 fn is_light(matrix: &Matrix) -> bool {
-    let entries: Vec<(u8, u8)> = matrix.rows.iter().flat_map(|row| row.cells.iter().flatten().copied()).collect();
+    let entries: Vec<(u8, u16)> = matrix.rows.iter().flat_map(|row| row.cells.iter().flatten().copied()).collect();
     2 * entries.iter().filter(|(_, weight)| *weight > 0).count() <= entries.len()
 }
 
@@ -76,8 +76,8 @@ fn columns_and_depth_are_those_asked_for() {
 
 #[test]
 fn every_matrix_has_what_its_kind_promises() {
-    for kind in Kind::ALL {
-        let plan = plan(kind, 3, None, None);
+    for (kind, version) in Kind::ALL.into_iter().flat_map(|kind| VERSIONS.map(|version| (kind, version))) {
+        let plan = Plan { version, ..plan(kind, 3, None, None) };
         let kept = (0..400).filter(|&number| keeps(kind, &plan.matrix(number))).count();
         // what ties repeat and which weights are 0 is left to chance
         let least = match kind {
@@ -85,14 +85,14 @@ fn every_matrix_has_what_its_kind_promises() {
             Kind::Weightless => 380,
             _ => 400,
         };
-        println!("{kind:?}: {kept} of 400");
+        println!("{kind:?}, version {version}: {kept} of 400");
         assert!(kept >= least, "{kind:?}: {kept} of 400");
     }
 }
 
 #[test]
 fn where_nothing_is_asked_for_sizes_vary() {
-    let plan = Plan { seed: 4, count: 1, kinds: Kind::ALL.to_vec(), columns: None, depth: None };
+    let plan = Plan { seed: 4, count: 1, version: 1, kinds: Kind::ALL.to_vec(), columns: None, depth: None };
     let sizes: Vec<(usize, usize)> = (0..400).map(|i| plan.matrix(i)).map(|m| (m.columns, m.most_active())).collect();
     for depth in 2..=12 {
         assert!(sizes.iter().any(|(_, active)| *active == depth), "no matrix with A = {depth}");
@@ -103,7 +103,7 @@ fn where_nothing_is_asked_for_sizes_vary() {
 #[test]
 fn seeds_that_follow_each_other_do_not_draw_the_same_matrices() {
     let of = |seed: u64| -> Vec<Matrix> {
-        let plan = Plan { seed, count: 1, kinds: vec![Kind::Pairs], columns: None, depth: None };
+        let plan = plan(Kind::Pairs, seed, None, None);
         (0..50).map(|number| plan.matrix(number)).collect()
     };
     let (first, second) = (of(1), of(2));

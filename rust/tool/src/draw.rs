@@ -10,7 +10,7 @@ pub const COMMAND: Command = Command {
     name: "draw",
     help: "\
 usage: velejume draw FOLDER --seed S --count N [--columns M] [--depth A]
-                     [--kind K,..] [--answers WHOSE]
+                     [--kind K,..] [--version V] [--answers WHOSE]
 
 Draws N fragment blocks into a new or an empty folder, and manifest.tsv, which
 says of each block its name, kind, m, n, A, how many reads have gaps, the least
@@ -35,6 +35,8 @@ machine, and a smaller N the first of them.
                      empty       reads without cells between the others
                      apart       parts that do not touch, with a column between
                                  that no read covers
+  --version V      version of the blocks, 1 or 2; without it 1. In version 2 they
+                   have the same reads, with weights up to 65535
   --answers WHOSE  also write answers: 'ours', or 'forgetful' for those of a
                    solver that forgets a read in its gap
 
@@ -47,6 +49,7 @@ kept.
         ("--columns", Some("a number")),
         ("--depth", Some("a number")),
         ("--kind", Some("kinds")),
+        ("--version", Some("1 or 2")),
         ("--answers", Some("'ours' or 'forgetful'")),
     ],
     run,
@@ -75,6 +78,7 @@ fn plan(words: &Words) -> Result<Plan, String> {
         columns: words.number("--columns", COLUMNS)?,
         depth: words.number("--depth", DEPTH)?,
         kinds: words.read_as("--kind", &format!("one or more of {names}"), kinds)?.unwrap_or(Kind::ALL.to_vec()),
+        version: words.block_version()?.unwrap_or(1),
     })
 }
 
@@ -87,6 +91,9 @@ fn origin(plan: &Plan) -> String {
     }
     if plan.kinds != Kind::ALL {
         text += &format!(" --kind {}", plan.kinds.iter().map(|kind| kind.name()).collect::<Vec<_>>().join(","));
+    }
+    if plan.version != 1 {
+        text += &format!(" --version {}", plan.version);
     }
     text
 }

@@ -25,8 +25,8 @@ usage: velejume phase [--answer] BLOCK..
        velejume judge FOLDER [--report PAGE.html] [--tsv FILE] [--part I/N]
        velejume answers FOLDER
        velejume draw FOLDER --seed S --count N [--columns M] [--depth A]
-                     [--kind K,..] [--answers WHOSE]
-       velejume matrix --block [--columns M] [TEXT]
+                     [--kind K,..] [--version V] [--answers WHOSE]
+       velejume matrix --block [--columns M] [--version V] [TEXT]
        velejume matrix --text [BLOCK]
 
   phase    divide the reads of blocks at the least cost

@@ -11,7 +11,7 @@ use velejume::BLOCK_BYTES;
 pub const COMMAND: Command = Command {
     name: "matrix",
     help: "\
-usage: velejume matrix --block [--columns M] [TEXT]
+usage: velejume matrix --block [--columns M] [--version V] [TEXT]
        velejume matrix --text [BLOCK]
 
 Turns a matrix as text into a fragment block, or a fragment block into text,
@@ -21,12 +21,14 @@ no cell; a row of dots alone is a read without cells.
 
   --block      from a text to a block
   --columns M  the number of columns, where no row reaches the last
+  --version V  version of the block: 1 for weights up to 255, 2 for weights up to
+               65535; without it the least that holds the weights
   --text       from a block to a text, a line for each read
 
 The exit status is 0 if it is written; 1 if the text is no matrix or the block
 is refused; 2 if the file cannot be read or this usage is not kept.
 ",
-    options: &[("--block", None), ("--text", None), ("--columns", Some("a number"))],
+    options: &[("--block", None), ("--text", None), ("--columns", Some("a number")), ("--version", Some("1 or 2"))],
     run,
 };
 
@@ -43,10 +45,15 @@ fn input(most: usize, what: &str) -> Result<Vec<u8>, String> {
     }
 }
 
-/// The block of a text, or what is wrong with it.
-fn block(text: Vec<u8>, columns: Option<usize>) -> Result<Vec<u8>, String> {
+/// The block of a text, in the version that is given or needed, or what is wrong with it.
+fn block(text: Vec<u8>, columns: Option<usize>, version: Option<u8>) -> Result<Vec<u8>, String> {
     let text = String::from_utf8(text).map_err(|_| "it is no text".to_string())?;
-    matrix::parse(&text, columns).map(|matrix| matrix.block()).map_err(|fault| fault.to_string())
+    let in_version = |matrix: Matrix| match version {
+        Some(version) => matrix.in_version(version),
+        None => Ok(matrix),
+    };
+    let matrix = matrix::parse(&text, columns).and_then(in_version);
+    matrix.map(|matrix| matrix.block()).map_err(|fault| fault.to_string())
 }
 
 /// The text of a block, or its refusal.
@@ -57,10 +64,12 @@ fn text(block: Vec<u8>) -> Result<Vec<u8>, String> {
 
 fn run(words: &Words) -> Result<Status, Fault> {
     let columns = words.number("--columns", 1..=1024).map_err(Fault::Usage)?;
-    let to_block = match (words.has("--block"), words.has("--text")) {
-        (true, false) => true,
-        (false, true) if columns.is_none() => false,
-        (false, true) => return Err(Fault::Usage("--columns goes with --block".to_string())),
+    let version = words.block_version().map_err(Fault::Usage)?;
+    let of_block = ["--columns", "--version"].into_iter().find(|option| words.has(option));
+    let to_block = match (words.has("--block"), words.has("--text"), of_block) {
+        (true, false, _) => true,
+        (false, true, None) => false,
+        (false, true, Some(option)) => return Err(Fault::Usage(format!("{option} goes with --block"))),
         _ => return Err(Fault::Usage("either --block or --text".to_string())),
     };
     let (most, what) = if to_block { (TEXT_BYTES, "text") } else { (BLOCK_BYTES, "block") };
@@ -71,7 +80,7 @@ fn run(words: &Words) -> Result<Status, Fault> {
         _ => return Err(Fault::Usage("one file at most".to_string())),
     };
     let bytes = bytes.map_err(|why| Fault::Failed(at(name, format!("cannot be read: {why}"))))?;
-    match if to_block { block(bytes, columns) } else { text(bytes) } {
+    match if to_block { block(bytes, columns, version) } else { text(bytes) } {
         Ok(output) => print(&output).map(|_| Status::Fine),
         Err(fault) => {
             crate::output::say(&format!("velejume matrix: {}", at(name, fault)));

@@ -93,6 +93,11 @@ impl Words {
         self.read_as(name, &what, |text| text.parse().ok().filter(|number| digits(text) && range.contains(number)))
     }
 
+    /// The version of blocks that are written, if it is given.
+    pub fn block_version(&self) -> Result<Option<u8>, String> {
+        self.read_as("--version", "1 or 2", |text| matrix::VERSIONS.into_iter().find(|version| text == version.to_string()))
+    }
+
     /// The words that are no options.
     pub fn rest(&self) -> Vec<PathBuf> {
         self.rest.iter().map(PathBuf::from).collect()

@@ -4,8 +4,11 @@ use super::division::{Division, entries};
 use matrix::Matrix;
 use std::ops::Range;
 
-/// How many columns are drawn at most, so that two drawings stand side by side.
-const MOST: usize = 16;
+/// How many columns are drawn at most, so that two drawings stand side by side: fewer where weights have four or five digits.
+fn most(matrix: &Matrix) -> usize {
+    let wide = entries(matrix).any(|(_, _, (_, weight))| weight > 999);
+    if wide { 12 } else { 16 }
+}
 
 /// How many are drawn before and behind a column that matters.
 const AROUND: usize = 2;
@@ -51,13 +54,13 @@ fn that_matter(matrix: &Matrix, builder: Option<&Division>, ours: &Division) -> 
     candidates.into_iter().find(|columns| columns.contains(&true)).unwrap_or_default()
 }
 
-/// Columns around the first that matter, then those behind and before the last of these, until there are enough.
-fn chosen(total: usize, matter: &[bool]) -> Vec<bool> {
+/// Columns around the first that matter, then those behind and before the last of these, until there are so many.
+fn chosen(total: usize, most: usize, matter: &[bool]) -> Vec<bool> {
     let first: Vec<usize> = (0..matter.len()).filter(|&column| matter[column]).collect();
     let around = first.iter().flat_map(|&column| column.saturating_sub(AROUND)..total.min(column + AROUND + 1));
     let last = first.last().copied().unwrap_or(0);
     let mut chosen = vec![false; total];
-    let mut left = MOST;
+    let mut left = most;
     for column in around.chain(last..total).chain((0..last).rev()) {
         if left > 0 && !chosen[column] {
             chosen[column] = true;
@@ -69,7 +72,7 @@ fn chosen(total: usize, matter: &[bool]) -> Vec<bool> {
 
 /// What is drawn of a matrix, with what is left out between.
 pub fn places(matrix: &Matrix, builder: Option<&Division>, ours: &Division) -> Vec<Place> {
-    let chosen = chosen(matrix.columns, &that_matter(matrix, builder, ours));
+    let chosen = chosen(matrix.columns, most(matrix), &that_matter(matrix, builder, ours));
     let mut places = Vec::new();
     for (column, chosen) in chosen.into_iter().enumerate() {
         match places.last_mut() {

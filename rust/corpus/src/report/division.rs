@@ -72,7 +72,7 @@ impl Division {
 }
 
 /// Read, column, letter and weight of every entry.
-pub fn entries(matrix: &Matrix) -> impl Iterator<Item = (usize, usize, (u8, u8))> {
+pub fn entries(matrix: &Matrix) -> impl Iterator<Item = (usize, usize, (u8, u16))> {
     matrix.rows.iter().enumerate().flat_map(|(read, row)| {
         let cells = row.cells.iter().enumerate();
         cells.filter_map(move |(i, cell)| Some((read, row.first + i, (*cell)?)))

@@ -35,14 +35,15 @@ fn manifest(folder: &Path) -> Vec<Vec<String>> {
 /// A read as it stands in a block: its first column and its letters, 2 for a hole.
 type Read = (usize, Vec<u8>);
 
-/// The columns and the reads of a block, read byte by byte.
+/// The columns and the reads of a block of either version, read byte by byte.
 fn taken_apart(block: &[u8]) -> (usize, Vec<Read>) {
     let word = |at: usize| 256 * usize::from(block[at]) + usize::from(block[at + 1]);
+    let cell = 1 + usize::from(block[0]);
     let mut at = 9;
     let mut reads = Vec::new();
     for _ in 0..word(7) {
         let (length, first) = (word(at), word(at + 2));
-        reads.push((first, block[at + 4..at + 2 + length].iter().step_by(2).copied().collect()));
+        reads.push((first, block[at + 4..at + 2 + length].iter().step_by(cell).copied().collect()));
         at += 2 + length;
     }
     assert_eq!(at, block.len());
@@ -89,17 +90,45 @@ fn the_same_words_draw_the_same_bytes_and_a_smaller_count_the_first_of_them() {
     assert!(blocks.zip(other.values()).all(|((_, one), other)| one != other), "another seed draws other blocks");
 }
 
+/// The checksum of 200 blocks of seed 2026.
+const PINNED: &str = "099179e45f78802aade3beb3efa4da9b019aba69f7f1197a41d1c4a5f1455e4b";
+
 #[test]
 fn the_bytes_are_these_on_every_machine() {
     let folder = drawn("draw-pinned", &["--seed", "2026", "--count", "200"]);
     let all: Vec<u8> = files(&folder).into_values().flatten().collect();
     let sum = corpus::hexadecimal(&corpus::sha256(&all));
-    assert_eq!(sum, "099179e45f78802aade3beb3efa4da9b019aba69f7f1197a41d1c4a5f1455e4b");
+    assert_eq!(sum, PINNED);
+}
+
+#[test]
+fn version_2_has_the_same_reads_with_weights_of_two_bytes() {
+    let folders = ["1", "2"].map(|version| {
+        drawn(&format!("draw-version-{version}"), &["--seed", "2026", "--count", "200", "--version", version])
+    });
+    let [narrow, wide] = folders.each_ref().map(|folder| files(folder));
+    let all: Vec<u8> = narrow.values().flatten().copied().collect();
+    assert_eq!(corpus::hexadecimal(&corpus::sha256(&all)), PINNED, "version 1 is what is drawn without the option");
+    assert!(narrow.keys().eq(wide.keys()));
+    for (narrow, wide) in narrow.values().zip(wide.values()) {
+        assert_eq!((narrow[0], wide[0]), (1, 2));
+        assert_eq!(taken_apart(narrow), taken_apart(wide));
+    }
+    let heavy = |block: &&Vec<u8>| block[0] == 2 && matrix::Matrix::read(block).unwrap().in_version(1).is_err();
+    assert!(wide.values().filter(heavy).count() > 150, "most have a weight above 255");
+    let text = fs::read_to_string(folders[1].join("manifest.tsv")).unwrap();
+    assert!(text.lines().next().unwrap().ends_with(" draw --seed 2026 --count 200 --version 2"), "{text}");
 }
 
 #[test]
 fn the_manifest_says_what_the_blocks_have() {
-    let folder = drawn("draw-manifest", &["--seed", "11", "--count", "160"]);
+    check_manifest("1");
+    check_manifest("2");
+}
+
+fn check_manifest(version: &str) {
+    let name = format!("draw-manifest-{version}");
+    let folder = drawn(&name, &["--seed", "11", "--count", "160", "--version", version]);
     let lines = manifest(&folder);
     assert_eq!(lines.len(), 160);
     for (number, line) in lines.iter().enumerate() {
@@ -112,8 +141,9 @@ fn the_manifest_says_what_the_blocks_have() {
         assert_eq!(line[8], if costs[0] == costs[1] { "no" } else { "yes" });
     }
     let text = fs::read_to_string(folder.join("manifest.tsv")).unwrap();
-    let version = env!("CARGO_PKG_VERSION");
-    assert!(text.starts_with(&format!("# velejume {version} draw --seed 11 --count 160\n")), "{text}");
+    let drawn = if version == "1" { "\n" } else { " --version 2\n" };
+    let origin = format!("# velejume {} draw --seed 11 --count 160{drawn}", env!("CARGO_PKG_VERSION"));
+    assert!(text.starts_with(&origin), "{text}");
 }
 
 #[test]
@@ -130,16 +160,25 @@ fn columns_depth_and_kinds_are_those_asked_for() {
 
 #[test]
 fn our_answers_are_ours() {
-    let folder = drawn("draw-ours", &["--seed", "3", "--count", "80", "--answers", "ours"]);
-    let (output, _, status) = run(&words!["judge", &folder]);
-    assert!(output.starts_with("50 malformed ") && output.ends_with("80 of 80 are least (56 or 57)\n"), "{output}");
-    assert_eq!(status, 0);
-    assert_eq!(run(&words!["answers", &folder]).0, "0 written, 80 there already, 0 not ours\n");
+    for version in ["1", "2"] {
+        let more = ["--seed", "3", "--count", "80", "--answers", "ours", "--version", version];
+        let folder = drawn(&format!("draw-ours-{version}"), &more);
+        let (output, _, status) = run(&words!["judge", &folder]);
+        assert!(output.starts_with("50 malformed ") && output.ends_with("80 of 80 are least (56 or 57)\n"), "{output}");
+        assert_eq!(status, 0);
+        assert_eq!(run(&words!["answers", &folder]).0, "0 written, 80 there already, 0 not ours\n");
+    }
 }
 
 #[test]
 fn a_forgetful_solver_fails_on_every_marked_block_and_on_none_without_gaps() {
-    let folder = drawn("draw-forgetful", &["--seed", "9", "--count", "240", "--answers", "forgetful"]);
+    check_forgetful("1");
+    check_forgetful("2");
+}
+
+fn check_forgetful(version: &str) {
+    let more = ["--seed", "9", "--count", "240", "--answers", "forgetful", "--version", version];
+    let folder = drawn(&format!("draw-forgetful-{version}"), &more);
     let file = folder.join("lines.tsv");
     assert_eq!(run(&words!["judge", &folder, "--tsv", &file]).2, 1);
     let judged = fs::read_to_string(file).unwrap();

@@ -9,7 +9,7 @@ use std::os::unix::net::UnixListener;
 use std::path::{Path, PathBuf};
 
 /// The most bytes that a fragment block and an answer block can have.
-const BLOCK: usize = 2_101_257;
+const BLOCK: usize = 3_149_833;
 const ANSWER: usize = 3_089;
 
 /// A folder with a file of each sort that is no block, and how what is said of it begins.
@@ -26,7 +26,7 @@ fn others(name: &str) -> (PathBuf, Vec<(PathBuf, &'static str)>) {
     let others = [
         ("device.block", "it is a device, no regular file"),
         ("dir.block", "it is a folder, no regular file"),
-        ("long.block", "it has more than 2101257 bytes, which no block has"),
+        ("long.block", "it has more than 3149833 bytes, which no block has"),
         ("loop.block", "Too many levels of symbolic links (os error 40)"),
         ("mem.block", ""),
         ("missing.block", "No such file or directory (os error 2)"),
@@ -96,11 +96,11 @@ fn the_longest_block_and_the_longest_answer_are_read_and_one_byte_more_is_not() 
         fs::write(&answer, vec![2; bytes]).unwrap();
         run(&words!["judge", &at, &answer])
     };
-    let longest = block(&vec![vec!["0:1"; 1024].join(" "); 1024].join("/"));
+    let longest = block(&vec![vec!["0:256"; 1024].join(" "); 1024].join("/"));
     assert_eq!(longest.len(), BLOCK);
     assert!(judge(&longest, 0).0.starts_with("refused 9 at 0: "));
     assert!(
-        judge(&[&longest[..], &[0]].concat(), 0).1.contains("a.block: cannot be read: it has more than 2101257 bytes")
+        judge(&[&longest[..], &[0]].concat(), 0).1.contains("a.block: cannot be read: it has more than 3149833 bytes")
     );
     assert_eq!(judge(&block(P2), ANSWER), ("50 malformed\n".to_string(), String::new(), 1));
     let said = "a.answer: cannot be read: it has more than 3089 bytes, which no answer has\n";

@@ -24,6 +24,21 @@ fn a_block_becomes_a_text() {
     assert_eq!(run(&["--text"], &BLOCK), (b"0:5 . /\n. 1:7\n".to_vec(), String::new(), 0));
 }
 
+/// `0:5 / . 1:7` in version 2.
+const WIDE: [u8; 23] = [2, 0, 0, 0, 18, 0, 2, 0, 2, 0, 5, 0, 0, 0, 0, 5, 0, 5, 0, 1, 1, 0, 7];
+
+#[test]
+fn the_version_is_the_one_given_or_needed() {
+    assert_eq!(run(&["--block", "--version", "2"], b"0:5 / . 1:7"), (WIDE.to_vec(), String::new(), 0));
+    assert_eq!(run(&["--block", "--version=1"], b"0:5 / . 1:7"), (BLOCK.to_vec(), String::new(), 0));
+    assert_eq!(run(&["--text"], &WIDE), (b"0:5 . /\n. 1:7\n".to_vec(), String::new(), 0));
+    let heavy = [2, 0, 0, 0, 11, 0, 1, 0, 1, 0, 5, 0, 0, 1, 1, 0].to_vec();
+    assert_eq!(run(&["--block"], b"1:256"), (heavy.clone(), String::new(), 0));
+    assert_eq!(run(&["--text"], &heavy), (b"1:256\n".to_vec(), String::new(), 0));
+    let said = "velejume matrix: standard input: row 1, entry 1: weight 256 is above 255, which takes version 2\n";
+    assert_eq!(run(&["--block", "--version", "1"], b"1:256"), (Vec::new(), said.to_string(), 1));
+}
+
 #[test]
 fn rows_are_separated_by_a_newline_as_well() {
     assert_eq!(run(&["--block"], b"0:5\n. 1:7\n"), (BLOCK.to_vec(), String::new(), 0));
@@ -57,8 +72,8 @@ fn a_fault_is_said_and_nothing_written() {
 
 #[test]
 fn no_more_is_read_than_a_matrix_can_have() {
-    let (output, error, status) = run(&["--text"], &vec![1; 2_101_258]);
-    let said = "velejume matrix: standard input: cannot be read: it has more than 2101257 bytes, which no block has\n";
+    let (output, error, status) = run(&["--text"], &vec![1; 3_149_834]);
+    let said = "velejume matrix: standard input: cannot be read: it has more than 3149833 bytes, which no block has\n";
     assert_eq!((output.len(), error.as_str(), status), (0, said, 2));
     let (output, error, status) = run(&["--block"], &vec![b' '; 16 * 1024 * 1024 + 1]);
     let said = "velejume matrix: standard input: cannot be read: it has more than 16777216 bytes, which no text has\n";

@@ -83,12 +83,15 @@ fn answers_are_written_beside_the_blocks_and_kept_where_they_are() {
 #[test]
 fn the_largest_block_finds_room() {
     let folder = folder("phase-largest");
-    let mut rows = vec![vec!["1:255"; 1024].join(" "); 12];
-    rows.resize(1024, ".".to_string());
-    fs::write(folder.join("a.block"), block(&rows.join("/"))).unwrap();
-    let (output, error, status) = run(&words!["phase", folder.join("a.block"), "--answer"]);
-    let (sides, ones, ties) = ("0".repeat(1024), "1".repeat(1024), "-".repeat(1024));
-    assert_eq!(output, format!("cost 0\nflips 0\nsides {sides}\nhap1 {ones}\nhap2 {ties}\n"));
-    assert_eq!((error.as_str(), status), ("", 0));
-    assert_eq!(fs::read(folder.join("a.answer")).unwrap().len(), 3089);
+    for (entry, name) in [("1:255", "narrow"), ("1:65535", "wide")] {
+        let mut rows = vec![vec![entry; 1024].join(" "); 12];
+        rows.resize(1024, ".".to_string());
+        let path = folder.join(format!("{name}.block"));
+        fs::write(&path, block(&rows.join("/"))).unwrap();
+        let (output, error, status) = run(&words!["phase", &path, "--answer"]);
+        let (sides, ones, ties) = ("0".repeat(1024), "1".repeat(1024), "-".repeat(1024));
+        assert_eq!(output, format!("cost 0\nflips 0\nsides {sides}\nhap1 {ones}\nhap2 {ties}\n"));
+        assert_eq!((error.as_str(), status), ("", 0));
+        assert_eq!(fs::read(path.with_extension("answer")).unwrap().len(), 3089);
+    }
 }

@@ -39,7 +39,7 @@ fn the_version_is_that_of_the_package() {
 
 #[test]
 fn words_that_are_not_as_they_should_be_get_the_usage_and_status_2() {
-    let wrong: [(&[&str], &str); 29] = [
+    let wrong: [(&[&str], &str); 33] = [
         (&[], "no command is given"),
         (&["what"], "there is no command what"),
         (&["two\nlines"], "there is no command two\\u{a}lines"),
@@ -69,7 +69,11 @@ fn words_that_are_not_as_they_should_be_get_the_usage_and_status_2() {
             &["draw", "a", "--seed=1", "--count=1", "--kind=pairs,x"],
             "--kind pairs,x: it should be one or more of gapless, ",
         ),
+        (&["draw", "a", "--seed=1", "--count=1", "--version=3"], "--version 3: it should be 1 or 2"),
         (&["matrix"], "either --block or --text"),
+        (&["matrix", "--version"], "--version needs 1 or 2"),
+        (&["matrix", "--block", "--version", "02"], "--version 02: it should be 1 or 2"),
+        (&["matrix", "--text", "--version", "2"], "--version goes with --block"),
         (&["matrix", "--text", "--columns", "1"], "--columns goes with --block"),
         (&["matrix", "--block", "--columns", "x"], "--columns x: it should be a number from 1 to 1024"),
     ];

@@ -64,7 +64,9 @@ fn faulty<const CELL: usize>(cells: &[u8]) -> bool {
     bad || !cells.is_empty() && (cells[0] == 2 || cells[cells.len() - CELL] == 2)
 }
 
-/// The read whose length field should stand at `at`, or the number of its refusal.
+/// The read whose length field should stand at `at`, or the number of its refusal. There may be 1,024 without cells, to which a
+/// call of its own would be dear.
+#[inline(always)]
 fn read_at<const CELL: usize>(bytes: &[u8], at: usize, columns: usize) -> Result<Read, u32> {
     if bytes.len() - at < 2 {
         return Err(5);
@@ -99,8 +101,11 @@ impl<'a> Block<'a> {
     /// Checks 1 to 8, in this order.
     pub fn read(bytes: &'a [u8]) -> Result<Self, Numbers> {
         let (cell, columns, count) = header(bytes)?;
-        let reads = if cell == NARROW { reads::<NARROW> } else { reads::<WIDE> };
-        Ok(Block { bytes, cell, columns, reads: reads(bytes, columns, count)? })
+        let reads = match cell {
+            NARROW => reads::<NARROW>(bytes, columns, count)?,
+            _ => reads::<WIDE>(bytes, columns, count)?,
+        };
+        Ok(Block { bytes, cell, columns, reads })
     }
 
     /// The same matrix with other reads, which are parts of its own.
@@ -113,19 +118,19 @@ impl<'a> Block<'a> {
         self.bytes[0]
     }
 
-    /// The bytes of a read's cells.
-    pub(crate) fn bytes(&self, read: &Read) -> &'a [u8] {
-        &self.bytes[read.at as usize..][..self.cell * read.c()]
+    /// The bytes of a read's cells, which have so many each.
+    pub(crate) fn bytes(&self, read: &Read, cell: usize) -> &'a [u8] {
+        &self.bytes[read.at as usize..][..cell * read.c()]
     }
 
     /// Letter and weight of each cell of a read. A hole has letter 2.
     pub fn cells(&self, read: &Read) -> impl Iterator<Item = (u8, u32)> + use<'a> {
-        self.bytes(read).chunks_exact(self.cell).map(|cell| (cell[0], weight(cell)))
+        self.bytes(read, self.cell).chunks_exact(self.cell).map(|cell| (cell[0], weight(cell)))
     }
 
     /// Letter and weight of one cell of a read.
     pub(crate) fn cell(&self, read: &Read, number: usize) -> (u8, u32) {
-        let cell = &self.bytes(read)[self.cell * number..][..self.cell];
+        let cell = &self.bytes(read, self.cell)[self.cell * number..][..self.cell];
         (cell[0], weight(cell))
     }
 

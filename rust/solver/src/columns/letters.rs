@@ -11,7 +11,7 @@ fn sums<const CELL: usize>(block: &Block, sides: &[u8]) -> Vec<Sums> {
     let mut sums = vec![Sums::default(); block.columns];
     for (read, &side) in block.reads.iter().zip(sides) {
         let span = &mut sums[usize::from(read.first)..usize::from(read.end)];
-        for (sums, cell) in span.iter_mut().zip(block.bytes(read).chunks_exact(CELL)) {
+        for (sums, cell) in span.iter_mut().zip(block.bytes(read, CELL).chunks_exact(CELL)) {
             sums[usize::from(side & 1)][usize::from(cell[0])] += 1 << 20 | weight(cell);
         }
     }

@@ -6,9 +6,10 @@
    verdict or a refusal, and stays within its rooms. It allocates nothing, keeps nothing between calls, may run in any number of threads at once,
    each with rooms of its own, and takes about 60 KiB of stack.
 
-   A fragment block, all numbers big-endian: version 1 (1 byte), the number of bytes after byte 4 (4), columns m (2), reads n (2); then for each
-   read L (2), its first column (2) and c cells, L = 2 + 2c. A cell is a letter (1), 0, 1 or 2 for a hole, and its weight (1), 0 for a hole. Reads and
-   columns are numbered from 0.
+   A fragment block, all numbers big-endian: version (1 byte), the number of bytes after byte 4 (4), columns m (2), reads n (2); then for each read
+   L (2), its first column (2) and c cells. A cell is a letter (1), 0, 1 or 2 for a hole, and its weight, 0 for a hole. In version 1 a weight has 1
+   byte, so a cell has 2 and L = 2 + 2c; in version 2 a weight has 2 bytes, so a cell has 3 and L = 2 + 3c. Every call takes both versions, and the same
+   matrix gets the same answer in both. Reads and columns are numbered from 0.
 
    A read is active in every column from its first to its last entry, holes between included. A is the largest number of active reads of any
    column; T is 1 if A = 0, otherwise 2 to the power A - 1. */
@@ -27,18 +28,22 @@
 #define VELEJUME_MOST_ENTRIES 2097152 /* 1024 x 2 to the power 11 */
 #define VELEJUME_LARGEST_ANSWER 3089  /* 17 + 1024 + 2 x 1024 */
 
-/* Bytes of the largest block that passes refusals 1 to 8, in which each read has all columns. A block that is accepted has at most
-   28681, 9 + 4 x 1024 + 2 x 12 x 1024, since a column has at most 12 active reads. */
-#define VELEJUME_LARGEST_BLOCK 2101257 /* 9 + 1024 x (4 + 2 x 1024) */
+/* Bytes of the largest block that passes refusals 1 to 8, of version 2, in which each read has all columns. A block that is accepted has at most
+   40969 in version 2, 9 + 4 x 1024 + 3 x 12 x 1024, since a column has at most 12 active reads, and 28681 in version 1. */
+#define VELEJUME_LARGEST_BLOCK 3149833 /* 9 + 1024 x (4 + 3 x 1024) */
+
+/* No cost is above the weight of all entries: 12 active reads in 1024 columns, of weight 65535. In version 1 it is 3133440. */
+#define VELEJUME_LARGEST_COST 805294080 /* 12 x 1024 x 65535 */
 
 /* Refusals. The checks run in this order, the first that applies is returned, and no room is written to.
 
    Number  Given exactly when                                                        Second number
         1  fewer than 9 bytes                                                        0
-        2  version not 1                                                             0
+        2  version neither 1 nor 2                                                   0
         3  length field differs from the bytes present after byte 4                  0
         4  m = 0, m > 1024 or n > 1024                                               0
-        5  a read's L is cut off, L < 2, L is odd, or L runs past the block          read
+        5  a read's L is cut off, L < 2, L is odd (in version 2: L - 2 is no         read
+           multiple of 3), or L runs past the block
         6  c = 0 with first column not 0, or first column + c > m                    read
         7  letter above 2, a hole with weight, first or last cell a hole             read
         8  bytes remain after the last read                                          0

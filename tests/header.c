@@ -1,5 +1,5 @@
-/* What velejume.h says of lengths: NULL with length 0 stands for each room, alone and together with others, and its constants are the
-   limits of the library. */
+/* What velejume.h says of lengths and versions: NULL with length 0 stands for each room, alone and together with others, both versions
+   of a matrix get the same answer, and the constants are the limits of the library. */
 #include <stdio.h>
 #include <string.h>
 #include <velejume.h>
@@ -18,6 +18,8 @@ static void expect(const char *what, uint32_t number, uint32_t second, uint32_t 
 /* 0:5 . / 1:3 0:2 / 1:6 1:1 / . 0:2 and its answer: cost 1, sides 1000, haplotypes 10 and 0- */
 static const uint8_t small[] = {1, 0, 0, 0, 32, 0, 2, 0, 4, 0, 4, 0, 0, 0, 5, 0, 6, 0, 0,
                                 1, 3, 0, 2, 0, 6, 0, 0, 1, 6, 1, 1, 0, 4, 0, 1, 0, 2};
+static const uint8_t wide[] = {2, 0, 0, 0, 38, 0, 2, 0, 4, 0, 5, 0, 0, 0, 0, 5, 0, 8, 0, 0, 1, 0,
+                               3, 0, 0, 2, 0, 8, 0, 0, 1, 0, 6, 1, 0, 1, 0, 5, 0, 1, 0, 0, 2}; /* the same in version 2 */
 static const uint8_t answer[] = {2, 0, 0, 0, 20, 0, 0, 0, 1, 0, 0, 0, 1, 0, 4, 0, 2, 1, 0, 0, 0, 1, 0, 0, 2};
 enum { BLOCK = sizeof small, ANSWER = sizeof answer, ENTRIES = 8, BYTES = 25 };
 
@@ -48,6 +50,19 @@ static void empty_rooms(void) {
   expect("a block as its own answer", 50, 0, number, second);
 }
 
+static void versions(void) {
+  uint32_t work[2][ENTRIES], number, second;
+  uint8_t out[2][BYTES];
+  number = velejume_phase(small, sizeof small, work[0], ENTRIES, out[0], BYTES, &second);
+  expect("version 1", 0, 1, number, second);
+  number = velejume_phase(wide, sizeof wide, work[1], ENTRIES, out[1], BYTES, &second);
+  expect("version 2", 0, 1, number, second);
+  expect("the same tables", 0, 0, (uint32_t)memcmp(work[0], work[1], sizeof work[0]), 0);
+  expect("the same answers", 0, 0, (uint32_t)memcmp(out[0], out[1], BYTES), (uint32_t)memcmp(out[0], answer, BYTES));
+  number = velejume_judge(wide, sizeof wide, answer, ANSWER, work[1], ENTRIES, &second);
+  expect("judge, version 2", 57, 0, number, second);
+}
+
 static uint8_t block[VELEJUME_LARGEST_BLOCK + 1];
 static uint32_t work[VELEJUME_MOST_ENTRIES];
 static uint8_t out[VELEJUME_LARGEST_ANSWER];
@@ -58,12 +73,15 @@ static size_t put(size_t at, size_t number) {
   return at + 2;
 }
 
+static uint8_t version;
+
 /* a block of so many columns and reads, each read of so many cells 0:0 from column 0 on; its length */
 static size_t build(size_t columns, size_t reads, size_t cells) {
+  size_t bytes = version == 1 ? 2 : 3;
   memset(block, 0, sizeof block);
-  block[0] = 1;
+  block[0] = version;
   size_t at = put(put(5, columns), reads);
-  for (size_t read = 0; read < reads; read++) at = put(put(at, 2 + 2 * cells), 0) + 2 * cells;
+  for (size_t read = 0; read < reads; read++) at = put(put(at, 2 + bytes * cells), 0) + bytes * cells;
   put(1, (at - 5) >> 16);
   put(3, (at - 5) & 0xffff);
   return at;
@@ -91,12 +109,38 @@ static void constants(void) {
   size = build(VELEJUME_MOST_COLUMNS, VELEJUME_MOST_READS, VELEJUME_MOST_COLUMNS);
   number = velejume_phase(block, size, work, VELEJUME_MOST_ENTRIES, out, VELEJUME_LARGEST_ANSWER, &second);
   expect("the largest block", 9, 0, number, second);
-  expect("its length", VELEJUME_LARGEST_BLOCK, 0, (uint32_t)size, 0);
+  expect("its length", version == 1 ? 2101257 : VELEJUME_LARGEST_BLOCK, 0, (uint32_t)size, 0);
+}
+
+/* All entries are zeros at the heaviest weight, and an answer has ones for all of them: its cost is the weight of all entries. */
+static void largest_cost(void) {
+  enum { COLUMNS = VELEJUME_MOST_COLUMNS, READS = VELEJUME_MOST_ACTIVE, LENGTH = 17 + READS + 2 * COLUMNS };
+  static uint8_t stated[LENGTH];
+  uint32_t cost = VELEJUME_LARGEST_COST, number, second;
+  size_t size = build(COLUMNS, READS, COLUMNS);
+  for (size_t read = 0; read < READS; read++)
+    for (size_t column = 0; column < COLUMNS; column++) put(9 + read * (4 + 3 * COLUMNS) + 5 + 3 * column, 65535);
+  memset(stated, 0, sizeof stated);
+  stated[0] = 2;
+  stated[3] = (uint8_t)((LENGTH - 5) >> 8), stated[4] = (uint8_t)(LENGTH - 5);
+  for (int i = 0; i < 4; i++) stated[5 + i] = (uint8_t)(cost >> (24 - 8 * i));
+  stated[14] = READS;
+  stated[15] = COLUMNS >> 8;
+  memset(stated + 17 + READS, 1, COLUMNS);
+  memset(stated + 17 + READS + COLUMNS, 2, COLUMNS);
+  number = velejume_judge(block, size, stated, LENGTH, work, VELEJUME_MOST_ENTRIES, &second);
+  expect("the largest cost", 55, 0, number, second);
+  stated[8]++;
+  number = velejume_judge(block, size, stated, LENGTH, work, VELEJUME_MOST_ENTRIES, &second);
+  expect("one more than it", 54, 0, number, second);
 }
 
 int main(void) {
   empty_rooms();
-  constants();
+  versions();
+  for (version = 1; version <= 2; version++) constants();
+  version = 2;
+  largest_cost();
   printf("%d passed, %d failed\n", passed, failed);
   return failed != 0;
 }

@@ -1,5 +1,5 @@
-/* Both sides of every limit, through the C name: numbers, what both rooms hold, and a guard behind each room. The largest
-   block, 1,024 columns under 12 reads, is held against plain search through its 2,048 divisions: every table entry too. */
+/* Both sides of every limit in both versions, through the C name: numbers, what both rooms hold, and a guard behind each room. The
+   largest block, 1,024 columns under 12 reads, is held against plain search through its 2,048 divisions: every table entry too. */
 typedef unsigned char u8;
 typedef unsigned int u32;
 typedef unsigned long usize;
@@ -29,30 +29,46 @@ static void put16(usize at, u32 x) {
   block[at + 1] = (u8)x;
 }
 
+/* the version of the blocks, the bytes of a cell, and how heavy an entry can be */
+static u8 version;
+static u32 bytes, heaviest;
+
 static void begin(u32 m, u32 n) {
-  block[0] = 1;
+  block[0] = version;
   put16(5, m);
   put16(7, n);
   size = 9;
 }
 
-/* a read of c cells from a column on: letters by a small generator, holes inside where asked */
+/* letters and weights by a small generator */
 static u32 seed = 1;
 static u32 next(void) {
   seed = seed * 1103515245u + 12345u;
   return seed >> 16;
 }
 
+/* where every entry is as heavy as it can be */
+static int heavy;
+
+/* a read of c cells from a column on, with holes inside where asked */
 static void read_of(u32 first, u32 c, int gap) {
-  put16(size, 2 + 2 * c);
+  put16(size, 2 + bytes * c);
   put16(size + 2, first);
   size += 4;
   for (u32 i = 0; i < c; i++) {
     int hole = gap && i > 0 && i + 1 < c;
-    block[size++] = hole ? 2 : (u8)(next() & 1);
-    block[size++] = hole ? 0 : (u8)(next() % 256);
+    block[size] = hole ? 2 : (u8)(next() & 1);
+    u32 weight = hole ? 0 : heavy ? heaviest : next() % (heaviest + 1);
+    if (version == 1) {
+      block[size + 1] = (u8)weight;
+    } else {
+      put16(size + 1, weight);
+    }
+    size += bytes;
   }
 }
+
+static u32 weight_at(usize cell) { return version == 1 ? block[cell + 1] : block[cell + 1] * 256u + block[cell + 2]; }
 
 static void finish(void) {
   u32 length = (u32)(size - 5);
@@ -82,6 +98,7 @@ static u32 lesser(u32 a, u32 b) { return a < b ? a : b; }
 static void largest(void) {
   static u32 sums[2048];
   u32 m = 1024, reads = 12;
+  for (u32 k = 0; k < 2048; k++) sums[k] = 0;
   begin(m, reads);
   for (u32 r = 0; r < reads; r++) read_of(0, m, 0);
   finish();
@@ -93,8 +110,8 @@ static void largest(void) {
     for (u32 k = 0; k < 2048; k++) {
       u32 w[2][2] = {{0, 0}, {0, 0}};
       for (u32 r = 0; r < reads; r++) {
-        usize cell = 9 + r * (4 + 2 * m) + 4 + 2 * j;
-        w[r ? k >> (r - 1) & 1 : 0][block[cell]] += block[cell + 1];
+        usize cell = 9 + r * (4 + bytes * m) + 4 + bytes * j;
+        w[r ? k >> (r - 1) & 1 : 0][block[cell]] += weight_at(cell);
       }
       sums[k] += lesser(w[0][0], w[0][1]) + lesser(w[1][0], w[1][1]);
       right &= work[j * 2048 + k] == sums[k];
@@ -120,7 +137,37 @@ static void largest(void) {
   expect(sides, "the largest sides");
 }
 
-int main(void) {
+/* a read of one entry that is longer by 0 to 6 bytes, and a hole with a weight in each of its bytes */
+static void cells(usize ample) {
+  for (u32 more = 0; more < 7; more++) {
+    begin(9, 1), read_of(0, 1, 0);
+    put16(9, 2 + bytes + more);
+    for (u32 i = 0; i < more; i++) block[size++] = 0;
+    finish();
+    call(9, ample, more % bytes ? 5 : 0, 0, "a length field that is longer");
+  }
+  for (u32 at = 1; at < bytes; at++) {
+    begin(3, 1), read_of(0, 3, 1), finish();
+    call(3, ample, 0, 0, "a hole without weight");
+    block[13 + bytes + at] = 1;
+    call(3, ample, 7, 0, "a hole with a weight in one byte");
+  }
+}
+
+/* 1,024 reads in 12 layers over 1,024 columns: as many bytes as an accepted block can have */
+static void longest(usize ample) {
+  begin(1024, 1024);
+  for (u32 layer = 0; layer < 12; layer++) {
+    u32 reads = layer < 8 ? 85 : 86;
+    for (u32 r = 0; r < reads; r++) read_of(r * 1024 / reads, (r + 1) * 1024 / reads - r * 1024 / reads, 0);
+  }
+  finish();
+  expect(size == (version == 1 ? 28681 : 40969), "the bytes of the longest block");
+  call(MOST_WORK, ample - 1, 11, MOST_OUT, "the longest block, output one byte short");
+  call(MOST_WORK, ample, 0, 0, "the longest block");
+}
+
+static void limits(void) {
   usize ample = 17 + 1024 + 2048;
   begin(1024, 0), finish(), call(1024, ample, 0, 0, "m 1,024");
   begin(1025, 0), finish(), call(1025, ample, 4, 0, "m 1,025");
@@ -153,7 +200,20 @@ int main(void) {
   call(1, 0, 11, 20, "no output");
   call(1, 19, 11, 20, "output one byte short of 20");
   call(1, 20, 0, 0, "output of just 20 bytes");
-  largest();
+  cells(ample);
+  longest(ample);
+  heavy = 0, largest();
+  heavy = 1, largest();
+}
+
+int main(void) {
+  version = 1, bytes = 2, heaviest = 255, limits();
+  version = 2, bytes = 3, heaviest = 65535, limits();
+  begin(1, 0), finish();
+  for (u32 other = 0; other < 256; other++) {
+    block[0] = (u8)other;
+    call(1, MOST_OUT, other == 1 || other == 2 ? 0 : 2, 0, "each version byte");
+  }
   printf("%d passed, %d failed\n", passed, failed);
   return failed != 0;
 }

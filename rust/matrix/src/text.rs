@@ -7,7 +7,6 @@ use std::fmt;
 #[derive(Clone, Debug, PartialEq, Eq)]
 pub enum Fault {
     Entry { row: usize, entry: usize, word: String },
-    /// a weight that version 1 has no room for
     Weight { row: usize, entry: usize, weight: u16 },
     EmptyRow { row: usize },
     LongRow { row: usize, entries: usize, columns: usize },

@@ -95,7 +95,8 @@ impl Words {
 
     /// The version of blocks that are written, if it is given.
     pub fn block_version(&self) -> Result<Option<u8>, String> {
-        self.read_as("--version", "1 or 2", |text| matrix::VERSIONS.into_iter().find(|version| text == version.to_string()))
+        let version = |text: &str| matrix::VERSIONS.into_iter().find(|version| text == version.to_string());
+        self.read_as("--version", "1 or 2", version)
     }
 
     /// The words that are no options.

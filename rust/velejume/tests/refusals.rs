@@ -33,7 +33,11 @@ fn refused(version: u8) -> [(Vec<u8>, Refusal, &'static str); 9] {
             "read 1: length field is cut off, L < 2, L is odd (in version 2: L − 2 is no multiple of 3), \
              or L runs past the block",
         ),
-        (change(second + 3, 3), Refusal::Columns { read: 1 }, "read 1: c = 0 with first column not 0, or first + c > m"),
+        (
+            change(second + 3, 3),
+            Refusal::Columns { read: 1 },
+            "read 1: c = 0 with first column not 0, or first + c > m",
+        ),
         (
             change(hole + 1, 1),
             Refusal::Cell { read: 0 },
@@ -46,7 +50,9 @@ fn refused(version: u8) -> [(Vec<u8>, Refusal, &'static str); 9] {
 
 #[test]
 fn each_refusal_of_a_block_has_its_words() {
-    for (i, (block, refusal, words)) in VERSIONS.into_iter().flat_map(|version| refused(version).into_iter().enumerate()) {
+    for (i, (block, refusal, words)) in
+        VERSIONS.into_iter().flat_map(|version| refused(version).into_iter().enumerate())
+    {
         assert_eq!(phase(&block), Err(refusal), "{block:?}");
         assert_eq!(refusal.number(), i as u32 + 1);
         assert_eq!(refusal.to_string(), words);

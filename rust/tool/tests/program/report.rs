@@ -237,6 +237,19 @@ fn of_a_large_block_the_columns_around_the_first_difference_are_drawn() {
 }
 
 #[test]
+fn weights_of_five_digits_are_drawn_whole_in_fewer_columns() {
+    let entries = |letter: u8| vec![format!("{letter}:65535"); 20].join(" ");
+    let rows = [entries(0), entries(1), format!("1:60000 {}", vec!["0:4000"; 19].join(" "))];
+    let (zeros, ones) = ("0".repeat(20), "1".repeat(20));
+    let page = page_of("report-wide", &rows.join(" / "), &format!("60000, 1, 101, {ones}, {zeros}"));
+    for figure in figures(&page) {
+        holds(figure, &["0<small>:65535</small>", "1<small>:60000</small><i>≠</i>", "0<small>:4000</small>"]);
+        holds(figure, &["<th>11<th class=\"out\" title=\"8 columns left out\">⋯\n"]);
+        assert!(!figure.contains("<th>12<"), "12 columns are drawn");
+    }
+}
+
+#[test]
 fn a_page_that_cannot_be_written_gets_status_2_and_nothing_is_judged() {
     let folder = folder("page-unwritable");
     put(&folder, "pair", P2, P2_OURS);

@@ -35,8 +35,8 @@ machine, and a smaller N the first of them.
                      empty       reads without cells between the others
                      apart       parts that do not touch, with a column between
                                  that no read covers
-  --version V      version of the blocks, 1 or 2; without it 1. In version 2 they
-                   have the same reads, with weights up to 65535
+  --version V      version of the blocks, 1 or 2; without it 1. In version 2
+                   they have the same reads, with weights up to 65535
   --answers WHOSE  also write answers: 'ours', or 'forgetful' for those of a
                    solver that forgets a read in its gap
 

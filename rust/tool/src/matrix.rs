@@ -21,8 +21,8 @@ no cell; a row of dots alone is a read without cells.
 
   --block      from a text to a block
   --columns M  the number of columns, where no row reaches the last
-  --version V  version of the block: 1 for weights up to 255, 2 for weights up to
-               65535; without it the least that holds the weights
+  --version V  version of the block: 1 for weights up to 255, 2 for weights up
+               to 65535; without it the least that holds the weights
   --text       from a block to a text, a line for each read
 
 The exit status is 0 if it is written; 1 if the text is no matrix or the block

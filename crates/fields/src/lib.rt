@@ -1,4 +1,4 @@
-// The bytes of a block: read from anywhere, written one after the other.
+// The bytes of a block: read from anywhere, written one after the other. What is said of a cell here goes by its size, for both versions.
 ghost use Prim.Native.Nat.{_≤_};
 
 // Room for a block.
@@ -41,6 +41,30 @@ pub fn word(block: &[u8], at: usize) -> usize
     byte(block, at) * 256 + byte(block, plus(at, 1))
 }
 
+// The bytes of a cell: a letter and a weight, which has one byte in version 1 and two in version 2.
+pub fn cell_size(version: usize) -> usize
+    ensures { λ r. ⌜ (2 ≤ r) × (r ≤ 3) ⌝ }
+{
+    if version == 2 { 3 } else { 2 }
+}
+
+// Where cell i of the read at a place starts.
+pub fn cell_at(at: usize, i: usize, size: usize) -> usize {
+    let cell = plus(plus(at, 4), plus(i, i));
+    if size == 2 { cell } else { plus(cell, i) }
+}
+
+// The weight of the cell at a place.
+pub fn weight_at(block: &[u8], cell: usize, size: usize) -> usize
+    ensures { λ r. ⌜ r ≤ 65535 ⌝ }
+{
+    let at = plus(cell, 1);
+    if size == 2 {
+        return byte(block, at);
+    }
+    word(block, at)
+}
+
 // Each `put_..` writes from `at` on and answers where it ends. What has no place in the room is left out.
 pub fn put(bytes: &mut Bytes, at: usize, b: u8) -> usize
     ensures { λ r. ⌜ r ≤ 8192 ⌝ }
@@ -59,11 +83,27 @@ pub fn put_word(bytes: &mut Bytes, at: usize, x: usize) -> usize
     put(bytes, second, low(x))
 }
 
-// The header but for its length field.
-pub fn put_header(bytes: &mut Bytes, m: usize, n: usize) -> usize
+// A cell; its weight is cut to the bytes that it has.
+pub fn put_cell(bytes: &mut Bytes, at: usize, size: usize, letter: u8, weight: usize) -> usize
     ensures { λ r. ⌜ r ≤ 8192 ⌝ }
 {
-    put(bytes, 0, 1);
+    let second = put(bytes, at, letter);
+    if size == 2 {
+        return put(bytes, second, low(weight));
+    }
+    put_word(bytes, second, weight)
+}
+
+// The length field of a read that starts at a place and is written up to its end.
+pub fn put_length(bytes: &mut Bytes, at: usize, end: usize) {
+    put_word(bytes, at, std::num::wrapping_sub_usize(end, plus(at, 2)));
+}
+
+// The header but for its length field.
+pub fn put_header(bytes: &mut Bytes, version: usize, m: usize, n: usize) -> usize
+    ensures { λ r. ⌜ r ≤ 8192 ⌝ }
+{
+    put(bytes, 0, low(version));
     let reads = put_word(bytes, 5, m);
     put_word(bytes, reads, n)
 }

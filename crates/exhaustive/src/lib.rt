@@ -1,4 +1,4 @@
-// A solver of document 01 by plain search, straight from its definitions. It shares nothing with the column method.
+// A solver of documents 01 and 02 by plain search, straight from their definitions. It shares nothing with the column method.
 pub mod charge;
 pub mod matrix;
 pub mod output;

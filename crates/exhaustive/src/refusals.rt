@@ -1,7 +1,8 @@
-// The numbers 1 to 8, from document 01's table and nothing else.
+// The numbers 1 to 8, from the tables of documents 01 and 02 and nothing else.
 ghost use Prim.Native.Nat.{_≤_};
 use fields::byte;
 use fields::plus;
+use fields::weight_at;
 use fields::word;
 
 // The two numbers of a call.
@@ -30,7 +31,11 @@ fn header_number(block: &[u8]) -> usize {
     if block.len() < 9 {
         return 1;
     }
-    if byte(block, 0) != 1 {
+    let version = byte(block, 0);
+    if version == 0 {
+        return 2;
+    }
+    if version > 2 {
         return 2;
     }
     if word(block, 1) * 65536 + word(block, 3) != block.len() - 5 {
@@ -63,30 +68,36 @@ fn faulty(letter: usize, weight: usize, inner: bool) -> bool {
     !inner
 }
 
+// The bytes of a cell of the block.
+pub fn cell_size(block: &[u8]) -> usize
+    ensures { λ r. ⌜ (2 ≤ r) × (r ≤ 3) ⌝ }
+{
+    fields::cell_size(byte(block, 0))
+}
+
 // Whether one of the c cells from a place on is faulty.
 fn faulty_cells(block: &[u8], at: usize, c: usize) -> bool {
+    let size = cell_size(block);
     let mut cell = at;
     let mut i: usize = 0;
     while i < c {
         let inner = i > 0 && i + 1 < c;
-        if faulty(byte(block, cell), byte(block, plus(cell, 1)), inner) {
+        if faulty(byte(block, cell), weight_at(block, cell, size), inner) {
             return true;
         }
-        cell = plus(cell, 2);
+        cell = plus(cell, size);
         i += 1;
     }
     false
 }
 
 // The number of cells of the read at a place.
-pub fn cells(block: &[u8], at: usize) -> usize
-    ensures { λ r. ⌜ r ≤ 32767 ⌝ }
-{
+pub fn cells(block: &[u8], at: usize) -> usize {
     let length = word(block, at);
     if length < 2 {
         return 0;
     }
-    (length - 2) / 2
+    (length - 2) / cell_size(block)
 }
 
 // Where the read at a place ends.
@@ -103,7 +114,7 @@ fn read_number(block: &[u8], at: usize, m: usize) -> usize {
     if length < 2 {
         return 5;
     }
-    if length % 2 == 1 {
+    if (length - 2) % cell_size(block) > 0 {
         return 5;
     }
     if left(block, at) < length + 2 {
@@ -116,7 +127,7 @@ fn read_number(block: &[u8], at: usize, m: usize) -> usize {
             return 6;
         }
     }
-    if first + c > m {
+    if plus(first, c) > m {
         return 6;
     }
     if faulty_cells(block, plus(at, 4), c) {

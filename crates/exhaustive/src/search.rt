@@ -75,8 +75,7 @@ fn keep(table: &mut Table, from: usize, e: Place, total: u32) {
 fn follow(
     first: &Columns,
     end: &Columns,
-    letters: &Cells,
-    weights: &Cells,
+    cells: &Cells,
     sides: &Sides,
     n: usize,
     m: usize,
@@ -89,7 +88,7 @@ fn follow(
     let mut from: usize = 0;
     let mut j: usize = 0;
     while j < m {
-        total = sum(total, charge(letters, weights, sides, n, j));
+        total = sum(total, charge(cells, sides, n, j));
         keep(table, from, entry(first, end, sides, n, j), total);
         from = plus(from, t);
         j += 1;
@@ -125,8 +124,7 @@ pub fn doubled(x: usize, times: usize) -> usize {
 pub fn walk(
     first: &Columns,
     end: &Columns,
-    letters: &Cells,
-    weights: &Cells,
+    cells: &Cells,
     n: usize,
     m: usize,
     t: usize,
@@ -141,7 +139,7 @@ pub fn walk(
     let mut d: usize = 0;
     while d < count {
         divide(d, n, &mut sides);
-        let c = follow(first, end, letters, weights, &sides, n, m, t, table);
+        let c = follow(first, end, cells, &sides, n, m, t, table);
         if c < cost {
             cost = c;
             best = d;

@@ -1,4 +1,4 @@
-// The exhaustive solver, from document 01's definitions: refusals, table and answer block.
+// The exhaustive solver, from the definitions of documents 01 and 02: refusals, table and answer block.
 ghost use Prim.Native.Nat.{_≤_};
 use crate::charge::Sides;
 use crate::charge::flips;
@@ -107,25 +107,18 @@ fn clear_rest(table: &mut Table, count: usize) {
 }
 
 // The letters of both haplotypes, into the answer block; and the number of flips.
-fn put_letters(
-    letters: &Cells,
-    weights: &Cells,
-    sides: &Sides,
-    n: usize,
-    m: usize,
-    answer: &mut Output,
-) -> u32
+fn put_letters(cells: &Cells, sides: &Sides, n: usize, m: usize, answer: &mut Output) -> u32
     requires { ⌜ (n ≤ 16) × (m ≤ 1024) ⌝ }
 {
     let mut total: u32 = 0;
     let mut j: usize = 0;
     while j < m {
-        let one = letter(letters, weights, sides, n, j, 0);
-        let two = letter(letters, weights, sides, n, j, 1);
+        let one = letter(cells, sides, n, j, 0);
+        let two = letter(cells, sides, n, j, 1);
         answer[17 + n + j] = one;
         answer[17 + n + m + j] = two;
-        total = sum(total, flips(letters, sides, n, j, 0, one));
-        total = sum(total, flips(letters, sides, n, j, 1, two));
+        total = sum(total, flips(cells, sides, n, j, 0, one));
+        total = sum(total, flips(cells, sides, n, j, 1, two));
         j += 1;
     }
     total
@@ -144,20 +137,12 @@ fn put_sides(end: &Columns, sides: &Sides, n: usize, answer: &mut Output)
 }
 
 // The answer block of a division, which is by rows; `end` is by reads.
-fn put_answer(
-    end: &Columns,
-    letters: &Cells,
-    weights: &Cells,
-    n: usize,
-    m: usize,
-    best: Best,
-    answer: &mut Output,
-)
+fn put_answer(end: &Columns, cells: &Cells, n: usize, m: usize, best: Best, answer: &mut Output)
     requires { ⌜ (n ≤ 16) × (m ≤ 1024) ⌝ }
 {
     let mut sides = [0u8; 16];
     divide(best.place, n, &mut sides);
-    let flips = put_letters(letters, weights, &sides, n, m, answer);
+    let flips = put_letters(cells, &sides, n, m, answer);
     put_sides(end, &sides, n, answer);
     put_head(answer, long(best.cost), long(flips), n, m);
 }
@@ -171,8 +156,7 @@ fn accept(block: &[u8], n: usize, m: usize, t: usize, table: &mut Table, answer:
     spans(block, n, &mut first, &mut end);
     let mut row_first = [0usize; 16];
     let mut row_end = [0usize; 16];
-    let mut letters = [2u8; 16384];
-    let mut weights = [0u8; 16384];
+    let mut cells = [131072u32; 16384];
     lay(
         block,
         n,
@@ -180,11 +164,10 @@ fn accept(block: &[u8], n: usize, m: usize, t: usize, table: &mut Table, answer:
         &end,
         &mut row_first,
         &mut row_end,
-        &mut letters,
-        &mut weights,
+        &mut cells,
     );
-    let best = walk(&row_first, &row_end, &letters, &weights, n, m, t, table);
-    put_answer(&end, &letters, &weights, n, m, best, answer);
+    let best = walk(&row_first, &row_end, &cells, n, m, t, table);
+    put_answer(&end, &cells, n, m, best, answer);
     best.cost
 }
 

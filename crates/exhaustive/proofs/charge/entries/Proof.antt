@@ -4,10 +4,10 @@ use Rattle.exhaustive.proofs.charge.entries.Statement.{statement}
 use Rattle.exhaustive.proofs.charge.entries.Tie as tie
 
 abbrev Inv-loop : tie.InvT-loop
-Inv-loop letters sides n j side letter total₀ i₀ total i = i ≤ n
+Inv-loop cells sides n j side letter total₀ i₀ total i = i ≤ n
 
 abbrev μ-loop : tie.MeasureT-loop
-μ-loop letters sides n j side letter total₀ i₀ total i = n - i
+μ-loop cells sides n j side letter total₀ i₀ total i = n - i
 
 loop-holds : tie.Need-loop-holds Inv-loop μ-loop
 loop-holds c = search needs

@@ -4,10 +4,10 @@ use Rattle.exhaustive.proofs.charge.weight.Statement.{statement}
 use Rattle.exhaustive.proofs.charge.weight.Tie as tie
 
 abbrev Inv-loop : tie.InvT-loop
-Inv-loop letters weights sides n j side letter total₀ i₀ total i = i ≤ n
+Inv-loop cells sides n j side letter total₀ i₀ total i = i ≤ n
 
 abbrev μ-loop : tie.MeasureT-loop
-μ-loop letters weights sides n j side letter total₀ i₀ total i = n - i
+μ-loop cells sides n j side letter total₀ i₀ total i = n - i
 
 loop-holds : tie.Need-loop-holds Inv-loop μ-loop
 loop-holds c = search needs
@@ -17,9 +17,6 @@ holds-requires c κs = search needs
 
 cell-requires : tie.Need-cell-requires Inv-loop μ-loop
 cell-requires c κs = search needs
-
-cast-sum : tie.Need-cast-sum Inv-loop μ-loop
-cast-sum c = search needs
 
 sum-requires : tie.Need-sum-requires Inv-loop μ-loop
 sum-requires c κs = search needs
@@ -45,7 +42,6 @@ weight-spec =
     loop-holds
     holds-requires
     cell-requires
-    cast-sum
     sum-requires
     add-i
     loop-less

@@ -4,10 +4,13 @@ use Rattle.exhaustive.proofs.refusals.faulty_cells.Statement.{statement
 use Rattle.exhaustive.proofs.refusals.faulty_cells.Tie as tie
 
 abbrev Inv-loop : tie.InvT-loop
-Inv-loop block at c cell₀ i₀ cell i = i ≤ c
+Inv-loop block at c size cell₀ i₀ cell i = i ≤ c
 
 abbrev μ-loop : tie.MeasureT-loop
-μ-loop block at c cell₀ i₀ cell i = c - i
+μ-loop block at c size cell₀ i₀ cell i = c - i
+
+cell-size-requires : tie.Need-cell-size-requires Inv-loop μ-loop
+cell-size-requires c κs = search needs
 
 loop-holds : tie.Need-loop-holds Inv-loop μ-loop
 loop-holds c = search needs
@@ -18,11 +21,8 @@ add-inner c = search needs
 byte-requires : tie.Need-byte-requires Inv-loop μ-loop
 byte-requires c κs = search needs
 
-plus-requires : tie.Need-plus-requires Inv-loop μ-loop
-plus-requires c κs = search needs
-
-byte-requires-2 : tie.Need-byte-requires-2 Inv-loop μ-loop
-byte-requires-2 c κs = search needs
+weight-at-requires : tie.Need-weight-at-requires Inv-loop μ-loop
+weight-at-requires c κs = search needs
 
 faulty-requires : tie.Need-faulty-requires Inv-loop μ-loop
 faulty-requires c κs = search needs
@@ -30,8 +30,8 @@ faulty-requires c κs = search needs
 returns : tie.Need-returns Inv-loop μ-loop
 returns c = search needs
 
-plus-requires-2 : tie.Need-plus-requires-2 Inv-loop μ-loop
-plus-requires-2 c κs = search needs
+plus-requires : tie.Need-plus-requires Inv-loop μ-loop
+plus-requires c κs = search needs
 
 add-i : tie.Need-add-i Inv-loop μ-loop
 add-i c = search needs
@@ -51,14 +51,14 @@ faulty-cells-spec =
     (tie.spec
     Inv-loop
     μ-loop
+    cell-size-requires
     loop-holds
     add-inner
     byte-requires
-    plus-requires
-    byte-requires-2
+    weight-at-requires
     faulty-requires
     returns
-    plus-requires-2
+    plus-requires
     add-i
     loop-less
     loop-again

@@ -1,8 +1,9 @@
-// A sound block, damaged in one field.
+// A sound block, of either version, damaged in one field.
 ghost use Prim.Native.Nat.{_≤_};
 use crate::random::below;
 use crate::random::within;
 use fields::Bytes;
+use fields::cell_size;
 use fields::low;
 use fields::plus;
 use fields::put;
@@ -48,15 +49,13 @@ fn word_at(bytes: &Bytes, at: usize) -> usize
     byte_at(bytes, at) * 256 + byte_at(bytes, plus(at, 1))
 }
 
-// Another number: a neighbour, a small one or any.
+// Another number: one that is up to three less or more, a small one or any.
 fn altered(x: usize, state: &mut u32) -> usize {
-    match below(state, 6) {
-        0 => plus(x, 1),
-        1 => plus(x, 2),
-        2 => std::num::wrapping_sub_usize(x, 1),
-        3 => std::num::wrapping_sub_usize(x, 2),
-        4 => below(state, 4),
-        _ => below(state, 65536),
+    match below(state, 8) {
+        0 => below(state, 65536),
+        1 => below(state, 4),
+        2 | 3 | 4 => plus(x, within(state, 1, 3)),
+        _ => std::num::wrapping_sub_usize(x, within(state, 1, 3)),
     }
 }
 
@@ -90,13 +89,16 @@ fn some_read(bytes: &Bytes, state: &mut u32) -> usize {
     read_at(bytes, below(state, n))
 }
 
-// One of the cells of the read at a place; the read itself if it has none.
-fn some_cell(bytes: &Bytes, at: usize, state: &mut u32) -> usize {
+// One of the cells, of so many bytes, of the read at a place; the read itself if it has none.
+fn some_cell(bytes: &Bytes, at: usize, size: usize, state: &mut u32) -> usize
+    requires { ⌜ 2 ≤ size ⌝ }
+{
     let length = word_at(bytes, at);
-    if length < 4 {
+    if length < 3 {
         return at;
     }
-    plus(at, 4 + below(state, (length - 2) / 2) * 2)
+    let byte = below(state, length - 2);
+    plus(at, std::num::wrapping_sub_usize(byte + 4, byte % size))
 }
 
 // Fewer bytes or more: the length field is put right in one of two.
@@ -153,8 +155,9 @@ pub fn damage(bytes: &mut Bytes, size: usize, field: u8, state: &mut u32) -> usi
     if field == BEHIND {
         return longer(bytes, size, state);
     }
+    let bytes_of_cell = cell_size(byte_at(bytes, 0));
     let read = some_read(bytes, state);
-    let cell = some_cell(bytes, read, state);
+    let cell = some_cell(bytes, read, bytes_of_cell, state);
     match field {
         VERSION => alter_byte(bytes, 0, state),
         SIZE => alter_word(bytes, 1 + 2 * below(state, 2), state),
@@ -163,7 +166,11 @@ pub fn damage(bytes: &mut Bytes, size: usize, field: u8, state: &mut u32) -> usi
         LENGTH => alter_word(bytes, read, state),
         FIRST => alter_word(bytes, plus(read, 2), state),
         LETTER => alter_byte(bytes, cell, state),
-        WEIGHT => alter_byte(bytes, plus(cell, 1), state),
+        WEIGHT => alter_byte(
+            bytes,
+            plus(cell, 1 + below(state, bytes_of_cell - 1)),
+            state,
+        ),
         _ => {}
     }
     size

@@ -1,11 +1,14 @@
-// The matrices of P1 to P9 of document 01. Each `put_..` answers how many bytes the block has.
+// The matrices of P1 to P9 of document 01, as blocks of a version. Each `put_..` answers how many bytes the block has.
 ghost use Prim.Native.Nat.{_≤_};
 use fields::Bytes;
+use fields::cell_size;
 use fields::plus;
-use fields::put;
+use fields::put_cell;
 use fields::put_header;
+use fields::put_length;
 use fields::put_size;
 use fields::put_word;
+use fields::wide;
 
 // The value of a digit of the text.
 fn digit(text: &[u8], at: usize) -> u8 {
@@ -18,72 +21,72 @@ fn digit(text: &[u8], at: usize) -> u8 {
 }
 
 // A read from a column on: cells as `0:5`, a hole as `2:0`, blanks between.
-fn row(bytes: &mut Bytes, at: usize, column: usize, text: &[u8]) -> usize
+fn row(bytes: &mut Bytes, version: usize, at: usize, column: usize, text: &[u8]) -> usize
     ensures { λ r. ⌜ r ≤ 8192 ⌝ }
 {
-    let c = plus(text.len(), 1) / 4;
-    let first = put_word(bytes, at, plus(2, plus(c, c)));
-    let mut end = put_word(bytes, first, column);
+    let size = cell_size(version);
+    let mut end = put_word(bytes, plus(at, 2), column);
     let mut i: usize = 0;
     while i < text.len() {
-        end = put(bytes, end, digit(text, i));
-        end = put(bytes, end, digit(text, i + 2));
+        let weight = wide(digit(text, i + 2));
+        end = put_cell(bytes, end, size, digit(text, i), weight);
         i += 4;
     }
+    put_length(bytes, at, end);
     end
 }
 
 // P1: 0:5 . / 1:3 0:2 / 1:6 1:1 / . 0:2
-pub fn put_p1(bytes: &mut Bytes) -> usize
+pub fn put_p1(bytes: &mut Bytes, version: usize) -> usize
     ensures { λ r. ⌜ r ≤ 8192 ⌝ }
 {
-    let r0 = put_header(bytes, 2, 4);
-    let r1 = row(bytes, r0, 0, b"0:5");
-    let r2 = row(bytes, r1, 0, b"1:3 0:2");
-    let r3 = row(bytes, r2, 0, b"1:6 1:1");
-    let size = row(bytes, r3, 1, b"0:2");
+    let r0 = put_header(bytes, version, 2, 4);
+    let r1 = row(bytes, version, r0, 0, b"0:5");
+    let r2 = row(bytes, version, r1, 0, b"1:3 0:2");
+    let r3 = row(bytes, version, r2, 0, b"1:6 1:1");
+    let size = row(bytes, version, r3, 1, b"0:2");
     put_size(bytes, size);
     size
 }
 
 // P2: 0:4 . 1:3 / 0:5 0:5 0:5 / 1:5 1:5 1:5
-pub fn put_p2(bytes: &mut Bytes) -> usize
+pub fn put_p2(bytes: &mut Bytes, version: usize) -> usize
     ensures { λ r. ⌜ r ≤ 8192 ⌝ }
 {
-    let r0 = put_header(bytes, 3, 3);
-    let r1 = row(bytes, r0, 0, b"0:4 2:0 1:3");
-    let r2 = row(bytes, r1, 0, b"0:5 0:5 0:5");
-    let size = row(bytes, r2, 0, b"1:5 1:5 1:5");
+    let r0 = put_header(bytes, version, 3, 3);
+    let r1 = row(bytes, version, r0, 0, b"0:4 2:0 1:3");
+    let r2 = row(bytes, version, r1, 0, b"0:5 0:5 0:5");
+    let size = row(bytes, version, r2, 0, b"1:5 1:5 1:5");
     put_size(bytes, size);
     size
 }
 
 // P3: m = 1, n = 0
-pub fn put_p3(bytes: &mut Bytes) -> usize
+pub fn put_p3(bytes: &mut Bytes, version: usize) -> usize
     ensures { λ r. ⌜ r ≤ 8192 ⌝ }
 {
-    let size = put_header(bytes, 1, 0);
+    let size = put_header(bytes, version, 1, 0);
     put_size(bytes, size);
     size
 }
 
 // P4 and P8: one read of one cell.
-pub fn put_one(bytes: &mut Bytes, m: usize, text: &[u8]) -> usize
+pub fn put_one(bytes: &mut Bytes, version: usize, m: usize, text: &[u8]) -> usize
     ensures { λ r. ⌜ r ≤ 8192 ⌝ }
 {
-    let r0 = put_header(bytes, m, 1);
-    let size = row(bytes, r0, 0, text);
+    let r0 = put_header(bytes, version, m, 1);
+    let size = row(bytes, version, r0, 0, text);
     put_size(bytes, size);
     size
 }
 
 // P5, P6, P7 and P9: two reads of one column.
-pub fn put_two(bytes: &mut Bytes, first: &[u8], second: &[u8]) -> usize
+pub fn put_two(bytes: &mut Bytes, version: usize, first: &[u8], second: &[u8]) -> usize
     ensures { λ r. ⌜ r ≤ 8192 ⌝ }
 {
-    let r0 = put_header(bytes, 1, 2);
-    let r1 = row(bytes, r0, 0, first);
-    let size = row(bytes, r1, 0, second);
+    let r0 = put_header(bytes, version, 1, 2);
+    let r1 = row(bytes, version, r0, 0, first);
+    let size = row(bytes, version, r1, 0, second);
     put_size(bytes, size);
     size
 }

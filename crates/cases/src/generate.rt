@@ -3,15 +3,32 @@ ghost use Prim.Native.Nat.{_+_, _≤_, _<_};
 use crate::random::below;
 use crate::random::within;
 use fields::Bytes;
+use fields::cell_size;
+use fields::low;
 use fields::plus;
-use fields::put;
+use fields::put_cell;
 use fields::put_header;
+use fields::put_length;
 use fields::put_size;
 use fields::put_word;
 use fields::wide;
 
+// What a weight of one byte becomes: itself, the higher of two bytes, both of them, any number of two bytes, or one of these for each cell.
+pub const ONE: usize = 0;
+
+pub const HIGH: usize = 1;
+
+pub const BOTH: usize = 2;
+
+pub const ANY: usize = 3;
+
+pub const MIXED: usize = 4;
+
 // What the blocks of a kind are like.
 pub struct Shape {
+    pub version: usize,
+    cell: usize,
+    spread: usize,
     columns: u8,
     fewest: u8,
     reads: u8,
@@ -24,9 +41,12 @@ pub struct Shape {
 }
 
 impl Shape {
-    // At most so many columns; from the fewest to the most reads, without a gap, of weight 1 to 255.
+    // At most so many columns; from the fewest to the most reads, without a gap, of weight 1 to 255. Of version 1.
     pub fn new(columns: u8, fewest: u8, most: u8) -> Self {
         Self {
+            version: 1,
+            cell: 2,
+            spread: ONE,
             columns: columns,
             fewest: fewest,
             reads: most,
@@ -37,6 +57,14 @@ impl Shape {
             empty: 0,
             apart: false,
         }
+    }
+
+    // Of a version, and what becomes of its weights.
+    pub fn version(mut self, version: usize, spread: usize) -> Self {
+        self.version = version;
+        self.cell = cell_size(version);
+        self.spread = spread;
+        self
     }
 
     // Of eight inner cells so many are holes: all eight make a pair.
@@ -109,19 +137,37 @@ fn part(m: usize, apart: bool, state: &mut u32) -> Span
     }
 }
 
+// A weight from one of one byte.
+fn spread(weight: usize, spread: usize, state: &mut u32) -> usize
+    requires { ⌜ weight ≤ 255 ⌝ }
+{
+    match spread {
+        ONE => weight,
+        HIGH => weight * 256,
+        BOTH => weight * 257,
+        _ => below(state, 65536),
+    }
+}
+
+fn some_weight(shape: Shape, state: &mut u32) -> usize {
+    let weight = within(state, shape.lightest, shape.heaviest);
+    if shape.spread == MIXED {
+        return spread(weight, below(state, MIXED), state);
+    }
+    spread(weight, shape.spread, state)
+}
+
 // A cell, a hole where it may be one and chance has it.
-fn put_cell(bytes: &mut Bytes, at: usize, inner: bool, shape: Shape, state: &mut u32) -> usize
+fn put_some(bytes: &mut Bytes, at: usize, inner: bool, shape: Shape, state: &mut u32) -> usize
     ensures { λ r. ⌜ r ≤ 8192 ⌝ }
 {
     let hole = below(state, 8) < wide(shape.holes);
-    let letter = within(state, 0, shape.highest) as u8;
-    let weight = within(state, shape.lightest, shape.heaviest) as u8;
+    let letter = within(state, 0, shape.highest);
+    let weight = some_weight(shape, state);
     if inner && hole {
-        let second = put(bytes, at, 2);
-        return put(bytes, second, 0);
+        return put_cell(bytes, at, shape.cell, 2, 0);
     }
-    let second = put(bytes, at, letter);
-    put(bytes, second, weight)
+    put_cell(bytes, at, shape.cell, low(letter), weight)
 }
 
 fn put_cells(bytes: &mut Bytes, at: usize, c: usize, shape: Shape, state: &mut u32) -> usize
@@ -131,7 +177,7 @@ fn put_cells(bytes: &mut Bytes, at: usize, c: usize, shape: Shape, state: &mut u
     let mut end = at;
     let mut i: usize = 0;
     while i < c {
-        end = put_cell(bytes, end, i > 0 && i + 1 < c, shape, state);
+        end = put_some(bytes, end, i > 0 && i + 1 < c, shape, state);
         i += 1;
     }
     end
@@ -148,9 +194,10 @@ pub fn put_span(
 ) -> usize
     ensures { λ r. ⌜ r ≤ 8192 ⌝ }
 {
-    let first = put_word(bytes, at, plus(2, plus(c, c)));
-    let cells = put_word(bytes, first, column);
-    put_cells(bytes, cells, c, shape, state)
+    let cells = put_word(bytes, plus(at, 2), column);
+    let end = put_cells(bytes, cells, c, shape, state);
+    put_length(bytes, at, end);
+    end
 }
 
 fn put_read(bytes: &mut Bytes, at: usize, m: usize, shape: Shape, state: &mut u32) -> usize
@@ -186,13 +233,22 @@ fn put_reads(
     end
 }
 
-// A sound block; and how many bytes it has.
-pub fn generate(bytes: &mut Bytes, shape: Shape, state: &mut u32) -> usize
+// The shape in version 1 or 2.
+fn some_version(shape: Shape, state: &mut u32) -> Shape {
+    if below(state, 2) == 0 {
+        return shape;
+    }
+    shape.version(2, below(state, MIXED + 1))
+}
+
+// A sound block of either version; and how many bytes it has.
+pub fn generate(bytes: &mut Bytes, of: Shape, state: &mut u32) -> usize
     ensures { λ r. ⌜ r ≤ 8192 ⌝ }
 {
+    let shape = some_version(of, state);
     let m = within(state, 1, shape.columns);
     let n = within(state, shape.fewest, shape.reads);
-    let start = put_header(bytes, m, n);
+    let start = put_header(bytes, shape.version, m, n);
     let size = put_reads(bytes, start, m, n, shape, state);
     put_size(bytes, size);
     size

@@ -4,16 +4,16 @@ use Rattle.cases.proofs.alike.put_reads.Statement.{statement}
 use Rattle.cases.proofs.alike.put_reads.Tie as tie
 
 abbrev Inv-loop : tie.InvT-loop
-Inv-loop bytes₀ at reads column c end₀ r₀ bytes end r = (end ≤ 8192) × (r ≤ reads)
+Inv-loop bytes₀ at reads column c shape state₀ end₀ r₀ bytes state end r = (end ≤ 8192) × (r ≤ reads)
 
 abbrev μ-loop : tie.MeasureT-loop
-μ-loop bytes₀ at reads column c end₀ r₀ bytes end r = reads - r
+μ-loop bytes₀ at reads column c shape state₀ end₀ r₀ bytes state end r = reads - r
 
 loop-holds : tie.Need-loop-holds Inv-loop μ-loop
 loop-holds c = search needs
 
-put-read-requires : tie.Need-put-read-requires Inv-loop μ-loop
-put-read-requires c κs = search needs
+put-span-requires : tie.Need-put-span-requires Inv-loop μ-loop
+put-span-requires c κs = search needs
 
 add-r : tie.Need-add-r Inv-loop μ-loop
 add-r c = search needs
@@ -30,4 +30,12 @@ returns c = search needs
 pub put-reads-spec : {M : Type 1} → statement M
 put-reads-spec =
     tie.close
-    (tie.spec Inv-loop μ-loop loop-holds put-read-requires add-r loop-less loop-again returns)
+    (tie.spec
+    Inv-loop
+    μ-loop
+    loop-holds
+    put-span-requires
+    add-r
+    loop-less
+    loop-again
+    returns)

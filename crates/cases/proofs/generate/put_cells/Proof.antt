@@ -12,11 +12,11 @@ abbrev μ-loop : tie.MeasureT-loop
 loop-holds : tie.Need-loop-holds Inv-loop μ-loop
 loop-holds c = search needs
 
-add-put-cell : tie.Need-add-put-cell Inv-loop μ-loop
-add-put-cell c = search needs
+add-put-some : tie.Need-add-put-some Inv-loop μ-loop
+add-put-some c = search needs
 
-put-cell-requires : tie.Need-put-cell-requires Inv-loop μ-loop
-put-cell-requires c κs = search needs
+put-some-requires : tie.Need-put-some-requires Inv-loop μ-loop
+put-some-requires c κs = search needs
 
 add-i : tie.Need-add-i Inv-loop μ-loop
 add-i c = search needs
@@ -37,8 +37,8 @@ put-cells-spec =
     Inv-loop
     μ-loop
     loop-holds
-    add-put-cell
-    put-cell-requires
+    add-put-some
+    put-some-requires
     add-i
     loop-less
     loop-again

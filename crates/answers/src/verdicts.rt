@@ -3,13 +3,16 @@
 use exhaustive::output::Output;
 use exhaustive::refusals::Numbers;
 use exhaustive::refusals::behind;
+use exhaustive::refusals::cell_size;
 use exhaustive::refusals::cells;
 use exhaustive::refusals::given;
 use exhaustive::rooms::Table;
 use exhaustive::rooms::lent;
 use exhaustive::solver::solve;
 use fields::byte;
+use fields::cell_at;
 use fields::plus;
+use fields::weight_at;
 use fields::word;
 
 // The big-endian number of four bytes.
@@ -27,11 +30,12 @@ fn entry(block: &[u8], at: usize, j: usize, letter: usize) -> usize {
     if i >= cells(block, at) {
         return 0;
     }
-    let cell = plus(plus(at, 4), plus(i, i));
+    let size = cell_size(block);
+    let cell = cell_at(at, i, size);
     if byte(block, cell) != letter {
         return 0;
     }
-    byte(block, plus(cell, 1))
+    weight_at(block, cell, size)
 }
 
 // The weights of a side's entries with this letter at column j, summed; the sides are the answer's.

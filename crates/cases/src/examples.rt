@@ -1,7 +1,6 @@
 // The matrices of P1 to P9 of document 01, as blocks of a version. Each `put_..` answers how many bytes the block has.
 ghost use Prim.Native.Nat.{_≤_};
 use fields::Bytes;
-use fields::cell_size;
 use fields::plus;
 use fields::put_cell;
 use fields::put_header;
@@ -24,12 +23,11 @@ fn digit(text: &[u8], at: usize) -> u8 {
 fn row(bytes: &mut Bytes, version: usize, at: usize, column: usize, text: &[u8]) -> usize
     ensures { λ r. ⌜ r ≤ 8192 ⌝ }
 {
-    let size = cell_size(version);
     let mut end = put_word(bytes, plus(at, 2), column);
     let mut i: usize = 0;
     while i < text.len() {
         let weight = wide(digit(text, i + 2));
-        end = put_cell(bytes, end, size, digit(text, i), weight);
+        end = put_cell(bytes, end, version, digit(text, i), weight);
         i += 4;
     }
     put_length(bytes, at, end);

@@ -3,7 +3,6 @@ ghost use Prim.Native.Nat.{_+_, _≤_, _<_};
 use crate::random::below;
 use crate::random::within;
 use fields::Bytes;
-use fields::cell_size;
 use fields::low;
 use fields::plus;
 use fields::put_cell;
@@ -27,7 +26,6 @@ pub const MIXED: usize = 4;
 // What the blocks of a kind are like.
 pub struct Shape {
     pub version: usize,
-    cell: usize,
     spread: usize,
     columns: u8,
     fewest: u8,
@@ -45,7 +43,6 @@ impl Shape {
     pub fn new(columns: u8, fewest: u8, most: u8) -> Self {
         Self {
             version: 1,
-            cell: 2,
             spread: ONE,
             columns: columns,
             fewest: fewest,
@@ -62,7 +59,6 @@ impl Shape {
     // Of a version, and what becomes of its weights.
     pub fn version(mut self, version: usize, spread: usize) -> Self {
         self.version = version;
-        self.cell = cell_size(version);
         self.spread = spread;
         self
     }
@@ -165,9 +161,9 @@ fn put_some(bytes: &mut Bytes, at: usize, inner: bool, shape: Shape, state: &mut
     let letter = within(state, 0, shape.highest);
     let weight = some_weight(shape, state);
     if inner && hole {
-        return put_cell(bytes, at, shape.cell, 2, 0);
+        return put_cell(bytes, at, shape.version, 2, 0);
     }
-    put_cell(bytes, at, shape.cell, low(letter), weight)
+    put_cell(bytes, at, shape.version, low(letter), weight)
 }
 
 fn put_cells(bytes: &mut Bytes, at: usize, c: usize, shape: Shape, state: &mut u32) -> usize

@@ -1,4 +1,4 @@
-// The bytes of a block: read from anywhere, written one after the other. What is said of a cell here goes by its size, for both versions.
+// The bytes of a block: read from anywhere, written one after the other.
 ghost use Prim.Native.Nat.{_≤_};
 
 // Room for a block.
@@ -83,15 +83,15 @@ pub fn put_word(bytes: &mut Bytes, at: usize, x: usize) -> usize
     put(bytes, second, low(x))
 }
 
-// A cell; its weight is cut to the bytes that it has.
-pub fn put_cell(bytes: &mut Bytes, at: usize, size: usize, letter: u8, weight: usize) -> usize
+// A cell of a version.
+pub fn put_cell(bytes: &mut Bytes, at: usize, version: usize, letter: u8, weight: usize) -> usize
     ensures { λ r. ⌜ r ≤ 8192 ⌝ }
 {
     let second = put(bytes, at, letter);
-    if size == 2 {
-        return put(bytes, second, low(weight));
+    if version == 2 {
+        return put_word(bytes, second, weight);
     }
-    put_word(bytes, second, weight)
+    put(bytes, second, low(weight))
 }
 
 // The length field of a read that starts at a place and is written up to its end.

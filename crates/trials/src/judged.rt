@@ -68,9 +68,7 @@ fn against_judging(name: &[u8], block: &[u8], answer: &[u8], work: usize, tally:
 }
 
 // An answer to P1 against its stated verdict, which the judging of `answers` has to give too.
-fn stated(answer: &[u8], number: usize, second: usize, tally: &mut Tally) {
-    let block =
-        b"\x01\x00\x00\x00\x20\x00\x02\x00\x04\x00\x04\x00\x00\x00\x05\x00\x06\x00\x00\x01\x03\x00\x02\x00\x06\x00\x00\x01\x06\x01\x01\x00\x04\x00\x01\x00\x02";
+fn stated(block: &[u8], answer: &[u8], number: usize, second: usize, tally: &mut Tally) {
     let name = b"answers to P1";
     let mut table = [0u32; 16385];
     fill_table(&mut table);
@@ -79,34 +77,49 @@ fn stated(answer: &[u8], number: usize, second: usize, tally: &mut Tally) {
     same_numbers(name, own, given(number, second), tally);
 }
 
-// Ours is of cost 1, with sides 1000 and haplotypes 10 and 0-. Below it: version 1, m = 1, side 2, a `-` for 1, cost 2, all reads on side 0
-// with what that costs, and the sides exchanged.
-fn example(all: &mut Tally) {
-    let mut tally = [0usize; 22];
+// Ours is of cost 1, with sides 1000 and haplotypes 10 and 0-. Below it what is ill formed: version 1, m = 1, side 2.
+fn forms(block: &[u8], tally: &mut Tally) {
     let ours =
         b"\x02\x00\x00\x00\x14\x00\x00\x00\x01\x00\x00\x00\x01\x00\x04\x00\x02\x01\x00\x00\x00\x01\x00\x00\x02";
-    stated(ours, 57, 0, &mut tally);
+    stated(block, ours, 57, 0, tally);
     let version =
         b"\x01\x00\x00\x00\x14\x00\x00\x00\x01\x00\x00\x00\x01\x00\x04\x00\x02\x01\x00\x00\x00\x01\x00\x00\x02";
-    stated(version, 50, 0, &mut tally);
+    stated(block, version, 50, 0, tally);
     let columns =
         b"\x02\x00\x00\x00\x12\x00\x00\x00\x01\x00\x00\x00\x01\x00\x04\x00\x01\x01\x00\x00\x00\x01\x00";
-    stated(columns, 51, 0, &mut tally);
+    stated(block, columns, 51, 0, tally);
     let side =
         b"\x02\x00\x00\x00\x14\x00\x00\x00\x01\x00\x00\x00\x01\x00\x04\x00\x02\x01\x00\x00\x02\x01\x00\x00\x02";
-    stated(side, 52, 0, &mut tally);
+    stated(block, side, 52, 0, tally);
+}
+
+// What claims otherwise: a `-` for 1, cost 2, all reads on side 0 with what that costs, and the sides exchanged.
+fn claims(block: &[u8], tally: &mut Tally) {
     let dash =
         b"\x02\x00\x00\x00\x14\x00\x00\x00\x01\x00\x00\x00\x01\x00\x04\x00\x02\x01\x00\x00\x00\x02\x00\x00\x02";
-    stated(dash, 53, 0, &mut tally);
+    stated(block, dash, 53, 0, tally);
     let cost =
         b"\x02\x00\x00\x00\x14\x00\x00\x00\x02\x00\x00\x00\x01\x00\x04\x00\x02\x01\x00\x00\x00\x01\x00\x00\x02";
-    stated(cost, 54, 0, &mut tally);
+    stated(block, cost, 54, 0, tally);
     let one_side =
         b"\x02\x00\x00\x00\x14\x00\x00\x00\x06\x00\x00\x00\x02\x00\x04\x00\x02\x00\x00\x00\x00\x01\x00\x02\x02";
-    stated(one_side, 55, 1, &mut tally);
+    stated(block, one_side, 55, 1, tally);
     let exchanged =
         b"\x02\x00\x00\x00\x14\x00\x00\x00\x01\x00\x00\x00\x01\x00\x04\x00\x02\x00\x01\x01\x01\x00\x02\x01\x00";
-    stated(exchanged, 56, 0, &mut tally);
+    stated(block, exchanged, 56, 0, tally);
+}
+
+// P1 in both versions.
+fn examples(all: &mut Tally) {
+    let mut tally = [0usize; 22];
+    let first =
+        b"\x01\x00\x00\x00\x20\x00\x02\x00\x04\x00\x04\x00\x00\x00\x05\x00\x06\x00\x00\x01\x03\x00\x02\x00\x06\x00\x00\x01\x06\x01\x01\x00\x04\x00\x01\x00\x02";
+    let second =
+        b"\x02\x00\x00\x00\x26\x00\x02\x00\x04\x00\x05\x00\x00\x00\x00\x05\x00\x08\x00\x00\x01\x00\x03\x00\x00\x02\x00\x08\x00\x00\x01\x00\x06\x01\x00\x01\x00\x05\x00\x01\x00\x00\x02";
+    forms(first, &mut tally);
+    claims(first, &mut tally);
+    forms(second, &mut tally);
+    claims(second, &mut tally);
     line(b"answers to P1", &tally, all);
 }
 
@@ -193,74 +206,80 @@ fn sound(name: &[u8], answer: u8, answers: usize, state: &mut u32, all: &mut Tal
 }
 
 fn honest_kinds(state: &mut u32, all: &mut Tally) {
-    sound(b"answer ours", builders::OURS, 300, state, all);
-    sound(b"answer with other flips", builders::FLIPS, 300, state, all);
+    sound(b"answer ours", builders::OURS, 600, state, all);
+    sound(b"answer with other flips", builders::FLIPS, 600, state, all);
     sound(
         b"answer with sides exchanged",
         builders::EXCHANGED,
-        300,
+        600,
         state,
         all,
     );
     sound(
         b"answer with one side exchanged",
         builders::SIDE,
-        300,
+        600,
         state,
         all,
     );
+}
+
+fn divided_kinds(state: &mut u32, all: &mut Tally) {
     sound(
         b"answer of another division",
         builders::DIVISION,
-        300,
+        600,
         state,
         all,
     );
     sound(
         b"answer with another letter",
         builders::LETTER,
-        300,
+        600,
         state,
         all,
     );
     sound(
         b"answer with letters at ties",
         builders::TIES,
-        300,
+        600,
         state,
         all,
     );
 }
 
 fn false_kinds(state: &mut u32, all: &mut Tally) {
-    sound(b"answer with another cost", builders::COST, 300, state, all);
-    sound(b"answer with `-` put", builders::DASH, 300, state, all);
+    sound(b"answer with another cost", builders::COST, 600, state, all);
+    sound(b"answer with `-` put", builders::DASH, 600, state, all);
     sound(
         b"answer with a mark damaged",
         builders::MARK,
-        600,
+        1200,
         state,
         all,
     );
+}
+
+fn sized_kinds(state: &mut u32, all: &mut Tally) {
     sound(
         b"answer with other counts",
         builders::COUNTS,
-        300,
+        600,
         state,
         all,
     );
     sound(
         b"answer with a byte damaged",
         builders::BYTE,
-        600,
+        1200,
         state,
         all,
     );
-    sound(b"answer cut off", builders::CUT, 300, state, all);
+    sound(b"answer cut off", builders::CUT, 600, state, all);
     sound(
         b"answer with bytes behind",
         builders::BEHIND,
-        300,
+        600,
         state,
         all,
     );
@@ -268,15 +287,17 @@ fn false_kinds(state: &mut u32, all: &mut Tally) {
 
 // The same blocks and answers in every run.
 pub fn run(all: &mut Tally) {
-    example(all);
+    examples(all);
     let mut state: u32 = 19970823;
     honest_kinds(&mut state, all);
+    divided_kinds(&mut state, all);
     false_kinds(&mut state, all);
+    sized_kinds(&mut state, all);
     kind(
         b"answer judged in a short room",
         builders::OURS,
         SHORT,
-        300,
+        600,
         &mut state,
         all,
     );
@@ -284,7 +305,7 @@ pub fn run(all: &mut Tally) {
         b"answer to a damaged block",
         builders::OURS,
         DAMAGED,
-        900,
+        1800,
         &mut state,
         all,
     );
@@ -292,7 +313,7 @@ pub fn run(all: &mut Tally) {
         b"answer to a crowded block",
         builders::OURS,
         CROWDED,
-        60,
+        120,
         &mut state,
         all,
     );

@@ -68,52 +68,76 @@ fn sound(name: &[u8], shape: Shape, blocks: usize, state: &mut u32, all: &mut Ta
     kind(name, shape, damage::NONE, blocks, state, all);
 }
 
-fn sound_kinds(state: &mut u32, all: &mut Tally) {
+fn wide_kinds(state: &mut u32, all: &mut Tally) {
     let gapless = Shape::new(9, 0, 8);
-    sound(b"gapless", gapless, 600, state, all);
+    sound(b"gapless", gapless, 1200, state, all);
     let pairs = Shape::new(24, 1, 8).holes(8);
-    sound(b"pairs", pairs, 600, state, all);
+    sound(b"pairs", pairs, 1200, state, all);
     let holes = Shape::new(9, 1, 8).holes(4).weights(1, 9);
-    sound(b"holes", holes, 600, state, all);
-    let ties = Shape::new(6, 4, 9).holes(2).weights(1, 1);
-    sound(b"ties", ties, 600, state, all);
-    let zero = Shape::new(7, 2, 8).holes(3).weights(0, 1);
-    sound(b"weight 0", zero, 600, state, all);
-    let empty = Shape::new(7, 1, 10).holes(3).weights(0, 3).empty(3);
-    sound(b"empty reads", empty, 600, state, all);
-    let parts = Shape::new(14, 2, 9).holes(3).weights(0, 3).apart();
-    sound(b"parts", parts, 600, state, all);
-    let deep = Shape::new(4, 10, 12).holes(3).weights(0, 9);
-    sound(b"deep", deep, 300, state, all);
-    let crowded = Shape::new(3, 13, 14).holes(4).weights(0, 9);
-    sound(b"crowded", crowded, 100, state, all);
+    sound(b"holes", holes, 1200, state, all);
 }
 
-fn damaged_kinds(state: &mut u32, all: &mut Tally) {
-    let full = Shape::new(6, 1, 6).holes(5).weights(0, 9);
-    let some = full.empty(3);
-    kind(b"version damaged", some, damage::VERSION, 150, state, all);
-    kind(b"length field damaged", some, damage::SIZE, 150, state, all);
-    kind(b"m damaged", some, damage::COLUMNS, 300, state, all);
-    kind(b"n damaged", some, damage::READS, 300, state, all);
-    kind(b"L damaged", some, damage::LENGTH, 300, state, all);
+fn tied_kinds(state: &mut u32, all: &mut Tally) {
+    let ties = Shape::new(6, 4, 9).holes(2).weights(1, 1);
+    sound(b"ties", ties, 1200, state, all);
+    let zero = Shape::new(7, 2, 8).holes(3).weights(0, 1);
+    sound(b"weight 0", zero, 1200, state, all);
+}
+
+fn parted_kinds(state: &mut u32, all: &mut Tally) {
+    let empty = Shape::new(7, 1, 10).holes(3).weights(0, 3).empty(3);
+    sound(b"empty reads", empty, 1200, state, all);
+    let parts = Shape::new(14, 2, 9).holes(3).weights(0, 3).apart();
+    sound(b"parts", parts, 1200, state, all);
+}
+
+fn deep_kinds(state: &mut u32, all: &mut Tally) {
+    let deep = Shape::new(4, 10, 12).holes(3).weights(0, 9);
+    sound(b"deep", deep, 600, state, all);
+    let crowded = Shape::new(3, 13, 14).holes(4).weights(0, 9);
+    sound(b"crowded", crowded, 200, state, all);
+}
+
+fn damaged_headers(some: Shape, state: &mut u32, all: &mut Tally) {
+    kind(b"version damaged", some, damage::VERSION, 300, state, all);
+    kind(b"length field damaged", some, damage::SIZE, 300, state, all);
+    kind(b"m damaged", some, damage::COLUMNS, 600, state, all);
+    kind(b"n damaged", some, damage::READS, 600, state, all);
+}
+
+fn damaged_reads(some: Shape, state: &mut u32, all: &mut Tally) {
+    kind(b"L damaged", some, damage::LENGTH, 600, state, all);
     kind(
         b"first column damaged",
         some,
         damage::FIRST,
-        300,
+        600,
         state,
         all,
     );
-    kind(b"letter damaged", full, damage::LETTER, 300, state, all);
-    kind(b"weight damaged", full, damage::WEIGHT, 300, state, all);
-    kind(b"cut off", some, damage::CUT, 300, state, all);
-    kind(b"bytes behind", some, damage::BEHIND, 300, state, all);
+}
+
+fn damaged_cells(full: Shape, state: &mut u32, all: &mut Tally) {
+    kind(b"letter damaged", full, damage::LETTER, 600, state, all);
+    kind(b"weight damaged", full, damage::WEIGHT, 600, state, all);
+}
+
+fn damaged_ends(some: Shape, state: &mut u32, all: &mut Tally) {
+    kind(b"cut off", some, damage::CUT, 600, state, all);
+    kind(b"bytes behind", some, damage::BEHIND, 600, state, all);
 }
 
 // The same blocks in every run.
 pub fn run(all: &mut Tally) {
     let mut state: u32 = 20150601;
-    sound_kinds(&mut state, all);
-    damaged_kinds(&mut state, all);
+    wide_kinds(&mut state, all);
+    tied_kinds(&mut state, all);
+    parted_kinds(&mut state, all);
+    deep_kinds(&mut state, all);
+    let full = Shape::new(6, 1, 6).holes(5).weights(0, 9);
+    let some = full.empty(3);
+    damaged_headers(some, &mut state, all);
+    damaged_reads(some, &mut state, all);
+    damaged_cells(full, &mut state, all);
+    damaged_ends(some, &mut state, all);
 }

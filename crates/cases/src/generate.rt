@@ -12,7 +12,7 @@ use fields::put_size;
 use fields::put_word;
 use fields::wide;
 
-// What a weight of one byte becomes: itself, the higher of two bytes, both of them, any number of two bytes, or one of these for each cell.
+// A weight of one byte becomes itself, the higher of two bytes, both of them, any number of two bytes, or one of these for each cell.
 pub const ONE: usize = 0;
 
 pub const HIGH: usize = 1;
@@ -133,7 +133,7 @@ fn part(m: usize, apart: bool, state: &mut u32) -> Span
     }
 }
 
-// A weight from one of one byte.
+// What a weight of one byte becomes.
 fn spread(weight: usize, spread: usize, state: &mut u32) -> usize
     requires { ⌜ weight ≤ 255 ⌝ }
 {

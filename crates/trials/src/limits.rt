@@ -132,7 +132,8 @@ fn rooms(s: Shape, tally: &mut Tally) {
     alike(s, 3, 4, 0, 3, lent(24, 0), given(11, 27), tally);
 }
 
-// 65,535 in every entry: the most active reads, and as many columns of four reads as a block here has room for. The costs were found apart.
+// 65,535 in every entry: the most active reads, and as many columns of four reads as a block here has room for. The costs are from a search
+// outside.
 fn weights(tally: &mut Tally) {
     let h = heaviest();
     alike(h, 8, 12, 0, 8, ample(), given(0, 1834980), tally);

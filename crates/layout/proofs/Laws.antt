@@ -1,4 +1,4 @@
--- Where read r stands among the bytes, and what the checks 5 to 7 leave of it, in cells of any size.
+-- Where read r stands among the bytes, and what the checks 5, 38, 6 and 7 leave of it, in cells of any size.
 use Prim.Native.Nat.{ℕ, zero, suc, _+_, _-_, _*_, _/_, _%_, _^_, _≤_, _<_}
 use borrow.Author.Tests.{ltb-false, eqb-true, not-false, eq-eqb}
 use lib.Dec.{eqb, ltb}

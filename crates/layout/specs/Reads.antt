@@ -14,7 +14,7 @@ matrixIn s reads = matrixFrom (s .size) (s .m) (s .n) reads
 abbrev pub CellSize : ℕ → Type 0
 CellSize size = (2 ≤ size) × (size ≤ 3)
 
--- what the checks of the header and the checks 5 to 7 leave: cells of such a size, m and n within their limits, each read sound
+-- what the checks of the header and the checks 5, 38, 6 and 7 leave: cells of such a size, m and n within their limits, each read sound
 pub record Lawful (s : Shape) (reads : List ℕ) : Type 0 where
   pub cell : CellSize (s .size)
   pub some-column : 0 < s .m

@@ -1,7 +1,7 @@
 -- Demand 1: the list says when each number is given, and it is given at no other time; a refusal writes nothing.
 use Prim.Native.Nat.{ℕ, zero, suc, _+_, _-_, _≤_, _<_, suc-le-suc}
 use borrow.Author.Tests.{eq-eqb, lt-ltb, ne-eqb, le-ltb}
-use lib.Dec.{ltb}
+use lib.Dec.{ltb, eqb}
 use lib.ListN.{length}
 use mathlib.Core.Bool.{Bool, true, false, cond, not, _||_}
 use mathlib.Core.List.{List}
@@ -10,23 +10,23 @@ use mathlib.Core.Path.{_≡_, refl, sym, ap, _∙_, subst, ap₂}
 use native.Mathlib.Decide.{decLe, ℕ-discrete}
 use native.Mathlib.Nat.{le-of-suc-le-suc, not-suc-le-zero, add-zero, le-of-eq, le-refl, zero-add}
 use native.Mathlib.Omega.{arith}
-use Rattle.meaning.specs.Block.{versionField, sizeField, columnsField, readsField, cellSize, cellCount, cellsPart, cellAt, afterRead, afterReads, readsPart, matrixOf}
+use Rattle.meaning.specs.Block.{versionField, sizeField, columnsField, readsField, cellSize, firstField, cellCount, cellsPart, cellAt, afterRead, afterReads, readsPart, matrixOf}
 use Rattle.meaning.specs.Active.{activeCount}
 use Rattle.meaning.specs.Letters.{Mode}
 use Rattle.meaning.specs.Answer.{answerSize}
-use Rattle.meaning.specs.Refusals.{Numbers, passed, short, otherVersion, otherSize, badCounts, badLength, badPlace, badCells, readFault, readsFault, leftOver, crowded, workSize, refuse, orElse, headerRefusal, blockRefusal, matrixRefusal, refusal}
+use Rattle.meaning.specs.Refusals.{Numbers, passed, short, otherVersion, otherSize, badCounts, badLength, retired, badPlace, badCells, readFault, readsFault, leftOver, crowded, workSize, refuse, orElse, headerRefusal, blockRefusal, matrixRefusal, refusal}
 use Rattle.meaning.specs.Call.{accepts, refuses, callWith}
 use Rattle.meaning.proofs.Refusals.{or-pass, or-stop, test-pass, test-stop}
 use Rattle.meaning.proofs.Formed.{Sound, Headed, Formed, Accepted}
 use Rattle.meaning.proofs.Tells.{tells-true, tells-false, tells-which, tells-below, tells-equal, tells-or}
-use Rattle.meaning.proofs.ReadChecks.{BadLength, GoodLength, BadPlace, GoodPlace, BadCells, GoodCells, GoodRead, length-tells, place-tells, cells-tell, sound-exactly}
+use Rattle.meaning.proofs.ReadChecks.{BadLength, GoodLength, Retired, NotRetired, BadPlace, GoodPlace, BadCells, GoodCells, GoodRead, length-tells, retired-tells, place-tells, cells-tell, sound-exactly}
 use Rattle.meaning.proofs.Call.{call-accepts, call-refuses}
 
 -- the part of the block that starts at read r
 abbrev pub readPart : List ℕ → ℕ → List ℕ
 readPart b r = afterReads r (readsPart b)
 
--- 5, 6 and 7 pass at the reads before r, and 9 at the columns before j
+-- 5, 38, 6 and 7 pass at the reads before r, and 9 at the columns before j
 abbrev pub SoundBefore : List ℕ → ℕ → Type 0
 SoundBefore b r = (k : ℕ) → k < r → GoodRead (cellSize b) (columnsField b) (readPart b k)
 
@@ -42,10 +42,13 @@ pub data Given (newest : ℕ) (b : List ℕ) (work out : ℕ) : ℕ → ℕ → 
       → (columnsField b ≡ 0) ⊎ ((1024 < columnsField b) ⊎ (1024 < readsField b)) → Given newest b work out 4 0
   length-of : Headed newest b → (r : ℕ) → r < readsField b → SoundBefore b r → BadLength (cellSize b) (readPart b r)
       → Given newest b work out 5 r
+  empty-of : Headed newest b → (r : ℕ) → r < readsField b → SoundBefore b r → GoodLength (cellSize b) (readPart b r)
+      → Retired (cellSize b) (readPart b r) → Given newest b work out 38 r
   place-of : Headed newest b → (r : ℕ) → r < readsField b → SoundBefore b r → GoodLength (cellSize b) (readPart b r)
-      → BadPlace (cellSize b) (columnsField b) (readPart b r) → Given newest b work out 6 r
+      → NotRetired (cellSize b) (readPart b r) → BadPlace (cellSize b) (columnsField b) (readPart b r) → Given newest b work out 6 r
   cell-of : Headed newest b → (r : ℕ) → r < readsField b → SoundBefore b r → GoodLength (cellSize b) (readPart b r)
-      → GoodPlace (cellSize b) (columnsField b) (readPart b r) → BadCells (cellSize b) (readPart b r) → Given newest b work out 7 r
+      → NotRetired (cellSize b) (readPart b r) → GoodPlace (cellSize b) (columnsField b) (readPart b r) → BadCells (cellSize b) (readPart b r)
+      → Given newest b work out 7 r
   remain : Headed newest b → SoundBefore b (readsField b) → 0 < length (readPart b (readsField b)) → Given newest b work out 8 0
   crowd : Formed newest b → (j : ℕ) → j < columnsField b → ThinBefore b j → 12 < activeCount (matrixOf b) j → Given newest b work out 9 j
   room : Formed newest b → ThinBefore b (columnsField b) → work < workSize (matrixOf b) → Given newest b work out 10 (workSize (matrixOf b))
@@ -53,15 +56,15 @@ pub data Given (newest : ℕ) (b : List ℕ) (work out : ℕ) : ℕ → ℕ → 
       → Given newest b work out 11 (answerSize (matrixOf b))
   none : Accepted newest b work out → Given newest b work out 0 0
 
--- a read's fault, by what the three checks tell
-fault : (z m : ℕ) (b : List ℕ) {x y w : Bool} → badLength z b ≡ x → badPlace z m b ≡ y → badCells (cellCount z b) (cellAt z (cellsPart b)) ≡ w
-    → readFault z m b ≡ cond x 5 (cond y 6 (cond w 7 0))
+-- a read's fault, by what the four checks tell
+fault : (z m : ℕ) (b : List ℕ) {x v y w : Bool} → badLength z b ≡ x → retired z b ≡ v → badPlace z m b ≡ y → badCells (cellCount z b) (cellAt z (cellsPart b)) ≡ w
+    → readFault z m b ≡ cond x 5 (cond v 38 (cond y 6 (cond w 7 0)))
 unfolding readFault
-fault z m b e f g = rw (e, f, g)
+fault z m b e k f g = rw (e, k, f, g)
 
 -- a sound read has none, and reads without fault pass
 sound-zero : (z m : ℕ) (b : List ℕ) → Sound z m b → readFault z m b ≡ 0
-sound-zero z m b s = fault z m b (s .sized) (s .placed) (s .celled)
+sound-zero z m b s = fault z m b (s .sized) (s .filled) (s .placed) (s .celled)
 
 pub reads-pass : (z m n r : ℕ) (b : List ℕ) → ((k : ℕ) → k < n → Sound z m (afterReads k b)) → readsFault z m n r b ≡ passed
 unfolding readsFault afterReads
@@ -128,16 +131,20 @@ counts-bad : (b : List ℕ) → (columnsField b ≡ 0) ⊎ ((1024 < columnsField
 unfolding badCounts
 counts-bad b = tells-true (tells-or (tells-equal (columnsField b) 0) (tells-or (tells-below 1024 (columnsField b)) (tells-below 1024 (readsField b))))
 
--- the faults that the checks 5, 6 and 7 find
+-- the faults that the checks 5, 38, 6 and 7 find
 module _ (z m : ℕ) (b : List ℕ) where
   fault-length : BadLength z b → readFault z m b ≡ 5
-  fault-length w = fault z m b (tells-true (length-tells z b) w) refl refl
+  fault-length w = fault z m b (tells-true (length-tells z b) w) refl refl refl
 
-  fault-place : GoodLength z b → BadPlace z m b → readFault z m b ≡ 6
-  fault-place g w = fault z m b (tells-false (length-tells z b) g) (tells-true (place-tells z b m) w) refl
+  fault-empty : GoodLength z b → Retired z b → readFault z m b ≡ 38
+  fault-empty g w = fault z m b (tells-false (length-tells z b) g) (tells-true (retired-tells z b) w) refl refl
 
-  fault-cell : GoodLength z b → GoodPlace z m b → BadCells z b → readFault z m b ≡ 7
-  fault-cell g p w = fault z m b (tells-false (length-tells z b) g) (tells-false (place-tells z b m) p) (tells-true (cells-tell z b) w)
+  fault-place : GoodLength z b → NotRetired z b → BadPlace z m b → readFault z m b ≡ 6
+  fault-place g k w = fault z m b (tells-false (length-tells z b) g) (tells-false (retired-tells z b) k) (tells-true (place-tells z b m) w) refl
+
+  fault-cell : GoodLength z b → NotRetired z b → GoodPlace z m b → BadCells z b → readFault z m b ≡ 7
+  fault-cell g k p w =
+      fault z m b (tells-false (length-tells z b) g) (tells-false (retired-tells z b) k) (tells-false (place-tells z b m) p) (tells-true (cells-tell z b) w)
 
 not-zero : (i s : ℕ) {r : Numbers} → r ≡ record { number = suc i; second = s } → r .number ≡ 0 → ⊥
 not-zero i s e z = let q : suc i ≡ 0 = sym (ap (λ (x : Numbers). x .number) e) ∙ z in omega arith
@@ -233,8 +240,9 @@ module _ (newest : ℕ) (b : List ℕ) (work out : ℕ) where
   given-only (size h v w e) = header-stops 2 0 (header-three (le-ltb (length b) 9 h) (known-version v w) (ap not (ne-eqb (sizeField b) (length b - 5) e)))
   given-only (counts h v w e c) = header-stops 3 0 (header-four (le-ltb (length b) 9 h) (known-version v w) (ap not (eq-eqb (sizeField b) (length b - 5) e)) (counts-bad b c))
   given-only (length-of h r l s e) = reads-stops h r 4 l s (fault-length (cellSize b) (columnsField b) (readPart b r) e)
-  given-only (place-of h r l s e f) = reads-stops h r 5 l s (fault-place (cellSize b) (columnsField b) (readPart b r) e f)
-  given-only (cell-of h r l s e f g) = reads-stops h r 6 l s (fault-cell (cellSize b) (columnsField b) (readPart b r) e f g)
+  given-only (empty-of h r l s e k) = reads-stops h r 37 l s (fault-empty (cellSize b) (columnsField b) (readPart b r) e k)
+  given-only (place-of h r l s e k f) = reads-stops h r 5 l s (fault-place (cellSize b) (columnsField b) (readPart b r) e k f)
+  given-only (cell-of h r l s e k f g) = reads-stops h r 6 l s (fault-cell (cellSize b) (columnsField b) (readPart b r) e k f g)
   given-only (remain h s l) = remain-stops h s l
   given-only (crowd f j l t c) = crowd-stops f j l t c
   given-only (room f t l) =
@@ -286,20 +294,22 @@ module _ (newest : ℕ) (b : List ℕ) (work out : ℕ) where
   reads-row : Headed newest b → (n : ℕ) → n ≤ readsField b → Row ⊎ SoundBefore b n
   reads-row h zero l = inr (λ k p. absurd (not-suc-le-zero p))
   reads-row h (suc n) l =
-      go (reads-row h n (omega arith)) (tells-which (length-tells (cellSize b) (readPart b n)))
+      go (reads-row h n (omega arith)) (tells-which (length-tells (cellSize b) (readPart b n))) (tells-which (retired-tells (cellSize b) (readPart b n)))
       (tells-which (place-tells (cellSize b) (readPart b n) (columnsField b))) (tells-which (cells-tell (cellSize b) (readPart b n)))
     where
       go : Row ⊎ SoundBefore b n → BadLength (cellSize b) (readPart b n) ⊎ GoodLength (cellSize b) (readPart b n)
+          → Retired (cellSize b) (readPart b n) ⊎ NotRetired (cellSize b) (readPart b n)
           → BadPlace (cellSize b) (columnsField b) (readPart b n) ⊎ GoodPlace (cellSize b) (columnsField b) (readPart b n)
           → BadCells (cellSize b) (readPart b n) ⊎ GoodCells (cellSize b) (readPart b n) → Row ⊎ SoundBefore b (suc n)
-      go (inl w) x y z = inl w
-      go (inr s) (inl e) y z = inl (5, n, length-of h n l s e)
-      go (inr s) (inr e) (inl f) z = inl (6, n, place-of h n l s e f)
-      go (inr s) (inr e) (inr f) (inl g) = inl (7, n, cell-of h n l s e f g)
-      go (inr s) (inr e) (inr f) (inr g) = inr (λ k p. here k p (ℕ-discrete k n))
+      go (inl w) x v y z = inl w
+      go (inr s) (inl e) v y z = inl (5, n, length-of h n l s e)
+      go (inr s) (inr e) (inl q) y z = inl (38, n, empty-of h n l s e q)
+      go (inr s) (inr e) (inr q) (inl f) z = inl (6, n, place-of h n l s e q f)
+      go (inr s) (inr e) (inr q) (inr f) (inl g) = inl (7, n, cell-of h n l s e q f g)
+      go (inr s) (inr e) (inr q) (inr f) (inr g) = inr (λ k p. here k p (ℕ-discrete k n))
         where
           here : (k : ℕ) → k < suc n → Dec (k ≡ n) → GoodRead (cellSize b) (columnsField b) (readPart b k)
-          here k p (yes x) = subst (λ (i : ℕ). GoodRead (cellSize b) (columnsField b) (readPart b i)) (sym x) (record { long = e; placed = f; cells = g })
+          here k p (yes x) = subst (λ (i : ℕ). GoodRead (cellSize b) (columnsField b) (readPart b i)) (sym x) (record { long = e; some = q; placed = f; cells = g })
           here k p (no x) = s k (omega arith)
 
   columns-row : Formed newest b → (m : ℕ) → m ≤ columnsField b → Row ⊎ ThinBefore b m
@@ -360,3 +370,15 @@ demand1-refused mode newest b work out {i} {s} g =
 pub demand1-accepted : (mode : Mode) (newest : ℕ) (b work out : List ℕ) → Accepted newest b (length work) (length out) → callWith mode newest b work out ≡ accepts mode (matrixOf b) work out
 demand1-accepted mode newest b work out a =
     call-accepts mode newest b work out (ap (λ (x : Numbers). x .number) (given-only newest b (length work) (length out) (none a)))
+
+-- in version 2 a read has cells where 6 is given, so that 6 means its second clause and only that
+pub place-two : (newest : ℕ) (b : List ℕ) (work out : ℕ) {r : ℕ} → versionField b ≡ 2 → Given newest b work out 6 r
+    → (0 < cellCount (cellSize b) (readPart b r)) × (columnsField b < firstField (readPart b r) + cellCount (cellSize b) (readPart b r))
+place-two newest b work out v (place-of h r l s e k f) =
+    let some : cellCount (cellSize b) (readPart b r) ≢ 0 = k (ap (λ (x : ℕ). 1 + cond (eqb x 2) 2 1) v) in
+    (omega arith, past some f)
+  where
+    past : cellCount (cellSize b) (readPart b r) ≢ 0 → BadPlace (cellSize b) (columnsField b) (readPart b r)
+        → columnsField b < firstField (readPart b r) + cellCount (cellSize b) (readPart b r)
+    past some (inl p) = absurd (some (p .0))
+    past some (inr p) = p

@@ -12,26 +12,31 @@ use native.Mathlib.Omega.{arith}
 use Rattle.meaning.specs.Block.{Read, noRead, versionField, sizeField, columnsField, readsField, cellSize, firstField, cellCount, cellsPart, cellAt, readOf, afterRead, readsOf, afterReads, readsPart, matrixFrom, matrixOf}
 use Rattle.meaning.specs.Active.{count, end, activeCount}
 use Rattle.meaning.specs.Answer.{answerSize}
-use Rattle.meaning.specs.Refusals.{short, otherVersion, otherSize, badCounts, badLength, badPlace, badCells, readFault, readsFault, leftOver, crowded, workSize, headerRefusal, blockRefusal, matrixRefusal, refusal}
+use Rattle.meaning.specs.Refusals.{short, otherVersion, otherSize, badCounts, badLength, retired, badPlace, badCells, readFault, readsFault, leftOver, crowded, workSize, headerRefusal, blockRefusal, matrixRefusal, refusal}
 use Rattle.meaning.proofs.Lists.{length-run}
 use Rattle.meaning.proofs.Closing.{Placed}
 use Rattle.meaning.proofs.Refusals.{or-else-zero, refuse-zero, or-false-left, or-false-right}
 
--- each read passes 5, 6 and 7
+-- each read passes 5, 38, 6 and 7
 pub record Sound (size m : ℕ) (b : List ℕ) : Type 0 where
   pub sized : badLength size b ≡ false
+  pub filled : retired size b ≡ false
   pub placed : badPlace size m b ≡ false
   pub celled : badCells (cellCount size b) (cellAt size (cellsPart b)) ≡ false
 
 pub read-sound : (size m : ℕ) (b : List ℕ) → readFault size m b ≡ 0 → Sound size m b
 unfolding readFault
-read-sound size m b = go (badLength size b) refl (badPlace size m b) refl (badCells (cellCount size b) (cellAt size (cellsPart b))) refl
+read-sound size m b =
+    go (badLength size b) refl (retired size b) refl (badPlace size m b) refl (badCells (cellCount size b) (cellAt size (cellsPart b))) refl
   where
-    go : (x : Bool) → badLength size b ≡ x → (y : Bool) → badPlace size m b ≡ y → (z : Bool) → badCells (cellCount size b) (cellAt size (cellsPart b)) ≡ z → _≡_ {A = ℕ} (cond x 5 (cond y 6 (cond z 7 0))) 0 → Sound size m b
-    go true e y f z g h = let w : ⊥ = omega arith in absurd w
-    go false e true f z g h = let w : ⊥ = omega arith in absurd w
-    go false e false f true g h = let w : ⊥ = omega arith in absurd w
-    go false e false f false g h = record { sized = e; placed = f; celled = g }
+    go : (x : Bool) → badLength size b ≡ x → (v : Bool) → retired size b ≡ v → (y : Bool) → badPlace size m b ≡ y
+        → (z : Bool) → badCells (cellCount size b) (cellAt size (cellsPart b)) ≡ z
+        → _≡_ {A = ℕ} (cond x 5 (cond v 38 (cond y 6 (cond z 7 0)))) 0 → Sound size m b
+    go true e v k y f z g h = let w : ⊥ = omega arith in absurd w
+    go false e true k y f z g h = let w : ⊥ = omega arith in absurd w
+    go false e false k true f z g h = let w : ⊥ = omega arith in absurd w
+    go false e false k false f true g h = let w : ⊥ = omega arith in absurd w
+    go false e false k false f false g h = record { sized = e; filled = k; placed = f; celled = g }
 
 -- where the reads from b on have no fault the k-th of them is sound
 pub reads-sound : (size m n r : ℕ) (b : List ℕ) → readsFault size m n r b .number ≡ 0 → (k : ℕ) → k < n → Sound size m (afterReads k b)

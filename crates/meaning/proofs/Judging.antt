@@ -5,15 +5,15 @@ use lib.Dec.{eqb}
 use lib.ListN.{length}
 use mathlib.Core.Bool.{Bool, cond}
 use mathlib.Core.List.{List}
-use mathlib.Core.Logic.{_≢_}
-use mathlib.Core.Path.{_≡_, sym, ap, _∙_}
+use mathlib.Core.Logic.{_≢_, _⊎_, inl, inr}
+use mathlib.Core.Path.{_≡_, refl, sym, ap, _∙_}
 use native.Mathlib.Omega.{arith}
 use Rattle.meaning.specs.Block.{Matrix, matrixOf}
 use Rattle.meaning.specs.Answer.{answerSize}
 use Rattle.meaning.specs.Refusals.{Numbers, blockRefusal, matrixRefusal, refusal}
 use Rattle.meaning.specs.Judge.{Judged, judges, rejects, judgingWith, judgingOn, JudgedBy}
 use Rattle.meaning.proofs.Refusals.{or-pass, or-stop}
-use Rattle.meaning.proofs.Demand1.{Given, fewer, version, size, counts, length-of, place-of, cell-of, remain, crowd, room, output, none, given}
+use Rattle.meaning.proofs.Demand1.{Given, fewer, version, size, counts, length-of, empty-of, place-of, cell-of, remain, crowd, room, output, none, given}
 
 module _ (newest : ℕ) (b a work : List ℕ) where
   -- the refusal of a call that has room for its answer
@@ -53,23 +53,28 @@ module _ (M : Matrix) (a work : List ℕ) where
   unfolding judgingOn
   judging-on-refuses e = ap (λ (t : Bool). cond t (judges M a work) (rejects (matrixRefusal M (length work) (answerSize M)) work)) (ne-eqb (matrixRefusal M (length work) (answerSize M) .number) 0 e)
 
--- there is always room for the answer, so a refusal is one of 1 to 10
-pub to-ten : (newest : ℕ) (b : List ℕ) (work : ℕ) {i s : ℕ} → Given newest b work (answerSize (matrixOf b)) i s → i ≤ 10
-to-ten newest b work (fewer h) = omega arith
-to-ten newest b work (version h v) = omega arith
-to-ten newest b work (size h v w x) = omega arith
-to-ten newest b work (counts h v w x c) = omega arith
-to-ten newest b work (length-of h r l s x) = omega arith
-to-ten newest b work (place-of h r l s x y) = omega arith
-to-ten newest b work (cell-of h r l s x y z) = omega arith
-to-ten newest b work (remain h s l) = omega arith
-to-ten newest b work (crowd f j l t c) = omega arith
-to-ten newest b work (room f t l) = omega arith
-to-ten newest b work (output f t l h) = omega arith
-to-ten newest b work (none x) = omega arith
+-- there is always room for the answer, so a refusal is one of 1 to 10, or 38
+pub to-ten-or-38 : (newest : ℕ) (b : List ℕ) (work : ℕ) {i s : ℕ} → Given newest b work (answerSize (matrixOf b)) i s → (i ≤ 10) ⊎ (i ≡ 38)
+to-ten-or-38 newest b work (fewer h) = inl (omega arith)
+to-ten-or-38 newest b work (version h v) = inl (omega arith)
+to-ten-or-38 newest b work (size h v w x) = inl (omega arith)
+to-ten-or-38 newest b work (counts h v w x c) = inl (omega arith)
+to-ten-or-38 newest b work (length-of h r l s x) = inl (omega arith)
+to-ten-or-38 newest b work (empty-of h r l s x k) = inr refl
+to-ten-or-38 newest b work (place-of h r l s x k y) = inl (omega arith)
+to-ten-or-38 newest b work (cell-of h r l s x k y z) = inl (omega arith)
+to-ten-or-38 newest b work (remain h s l) = inl (omega arith)
+to-ten-or-38 newest b work (crowd f j l t c) = inl (omega arith)
+to-ten-or-38 newest b work (room f t l) = inl (omega arith)
+to-ten-or-38 newest b work (output f t l h) = inl (omega arith)
+to-ten-or-38 newest b work (none x) = inl (omega arith)
 
 pub never-eleven : (newest : ℕ) (b : List ℕ) (work : ℕ) → refusal newest b work (answerSize (matrixOf b)) .number ≢ 11
-never-eleven newest b work e = omega (arith, to-ten newest b work (given newest b work (answerSize (matrixOf b))))
+never-eleven newest b work e = go (to-ten-or-38 newest b work (given newest b work (answerSize (matrixOf b))))
+  where
+    go : (refusal newest b work (answerSize (matrixOf b)) .number ≤ 10) ⊎ (refusal newest b work (answerSize (matrixOf b)) .number ≡ 38) → ⊥
+    go (inl l) = omega arith
+    go (inr k) = omega arith
 
 -- two results that the contract allows are equal
 pub judged-determined : (b a work : List ℕ) (r s : Judged) → JudgedBy b a work r → JudgedBy b a work s → r ≡ s

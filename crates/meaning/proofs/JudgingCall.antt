@@ -19,7 +19,7 @@ use Rattle.meaning.specs.Judge.{statedDivision, verdict, Judged, judges,
 use Rattle.meaning.proofs.Formed.{Accepted, accepted}
 use Rattle.meaning.proofs.Bounds.{Bytes}
 use Rattle.meaning.proofs.Demand1.{Given, given-only, given}
-use Rattle.meaning.proofs.Judging.{judging-accepts, judging-refuses, to-ten}
+use Rattle.meaning.proofs.Judging.{judging-accepts, judging-refuses, to-ten-or-38}
 use Rattle.meaning.proofs.VerdictChecks.{ourAnswer}
 use Rattle.meaning.proofs.Verdicts.{VerdictGiven, malformed-row, counts-row, mark-row, dash-row, cost-row, dear-row, other-row, ours-row, verdict-given}
 use Rattle.meaning.proofs.LeastVerdicts.{Reading, Beaten, least-exactly, not-least-beaten}
@@ -45,10 +45,10 @@ pub record JudgesRight (newest : ℕ) (b a work : List ℕ) (r : Judged) : Type 
   -- the room holds the table, and behind it what was there
   pub room : r .work ≡ over (table charge (matrixOf b)) work
 
--- a refusal r of the block b: 1 to 10, the numbers of the row of its table that applies, as of a call with room for its answer
+-- a refusal r of the block b: 1 to 10 or 38, the numbers of the row of its table that applies, as of a call with room for its answer
 pub record RejectsRight (newest : ℕ) (b work : List ℕ) (r : Judged) : Type 0 where
   pub from-1 : 1 ≤ r .number
-  pub to-10 : r .number ≤ 10
+  pub to-10-or-38 : (r .number ≤ 10) ⊎ (r .number ≡ 38)
   pub row : Given newest b (length work) (answerSize (matrixOf b)) (r .number) (r .second)
   -- the room is as it was
   pub room : r .work ≡ work
@@ -98,7 +98,7 @@ module _ (newest : ℕ) (b a work : List ℕ) where
   rejects-right n =
       let g = given newest b (length work) (answerSize (matrixOf b)) in
       subst (RejectsRight newest b work) (sym (judging-refuses newest b a work n))
-      (record { from-1 = omega arith; to-10 = to-ten newest b (length work) g; row = g; room = refl })
+      (record { from-1 = omega arith; to-10-or-38 = to-ten-or-38 newest b (length work) g; row = g; room = refl })
 
   -- one of the two, always
   pub judging-right : JudgesRight newest b a work judged ⊎ RejectsRight newest b work judged

@@ -1,4 +1,4 @@
--- What the checks 5, 6 and 7 find at the read that a part of the block starts with, and what they leave; and that each tells which.
+-- What the checks 5, 38, 6 and 7 find at the read that a part of the block starts with, and what they leave; and that each tells which.
 use Prim.Native.Nat.{ℕ, _+_, _-_, _%_, _≤_, _<_}
 use lib.ListN.{length}
 use mathlib.Core.List.{List}
@@ -7,7 +7,7 @@ use mathlib.Core.Path.{_≡_}
 use native.Mathlib.Nat.{le-of-eq}
 use native.Mathlib.Omega.{arith}
 use Rattle.meaning.specs.Block.{Cell, lengthField, firstField, cellCount, cellsPart, cellAt}
-use Rattle.meaning.specs.Refusals.{badLength, badPlace, badCell, isHole, badCells}
+use Rattle.meaning.specs.Refusals.{badLength, retired, badPlace, badCell, isHole, badCells}
 use Rattle.meaning.proofs.Tells.{Tells, in-other-words, tells-false, tells-below, tells-other, tells-equal, tells-or, tells-and, tells-any}
 use Rattle.meaning.proofs.Formed.{Sound}
 
@@ -20,6 +20,13 @@ pub record GoodLength (size : ℕ) (part : List ℕ) : Type 0 where
   pub headed : 2 ≤ lengthField part
   pub filled : (lengthField part - 2) % size ≡ 0
   pub within : 2 + lengthField part ≤ length part
+
+-- 38: c = 0, where a cell has three bytes
+abbrev pub Retired : ℕ → List ℕ → Type 0
+Retired size part = (size ≡ 3) × (cellCount size part ≡ 0)
+
+abbrev pub NotRetired : ℕ → List ℕ → Type 0
+NotRetired size part = size ≡ 3 → cellCount size part ≢ 0
 
 -- 6: c = 0 with first column not 0, or first + c > m
 abbrev pub BadPlace : ℕ → ℕ → List ℕ → Type 0
@@ -46,9 +53,10 @@ pub record GoodCells (size : ℕ) (part : List ℕ) : Type 0 where
   pub first : 0 < cellCount size part → cellOf size part 0 .letter ≢ 2
   pub last : 0 < cellCount size part → cellOf size part (cellCount size part - 1) .letter ≢ 2
 
--- none of the three
+-- none of the four
 pub record GoodRead (size m : ℕ) (part : List ℕ) : Type 0 where
   pub long : GoodLength size part
+  pub some : NotRetired size part
   pub placed : GoodPlace size m part
   pub cells : GoodCells size part
 
@@ -63,6 +71,10 @@ module _ (size : ℕ) (part : List ℕ) where
       (tells-or (tells-below (length part) 2)
       (tells-or (tells-below (lengthField part) 2)
       (tells-or (tells-other ((lengthField part - 2) % size) 0) (tells-below (length part) (2 + lengthField part)))))
+
+  pub retired-tells : Tells (retired size part) (Retired size part) (NotRetired size part)
+  unfolding retired
+  retired-tells = tells-and (tells-equal size 3) (tells-equal (cellCount size part) 0)
 
   pub place-tells : (m : ℕ) → Tells (badPlace size m part) (BadPlace size m part) (GoodPlace size m part)
   unfolding badPlace
@@ -90,12 +102,18 @@ module _ (size : ℕ) (part : List ℕ) where
       (tells-and (tells-below 0 (cellCount size part))
       (tells-or (tells-equal (cellOf size part 0 .letter) 2) (tells-equal (cellOf size part (cellCount size part - 1) .letter) 2))))
 
-  -- a read that passes the three checks is one that they leave
+  -- a read that passes the four checks is one that they leave
   pub sound-exactly : (m : ℕ) → Sound size m part ↔ GoodRead size m part
   sound-exactly m = (
-    λ s. record { long = length-tells .fails (s .sized); placed = place-tells m .fails (s .placed); cells = cells-tell .fails (s .celled) },
+    λ s. record {
+      long = length-tells .fails (s .sized);
+      some = retired-tells .fails (s .filled);
+      placed = place-tells m .fails (s .placed);
+      cells = cells-tell .fails (s .celled);
+    },
     λ g. record {
       sized = tells-false length-tells (g .long);
+      filled = tells-false retired-tells (g .some);
       placed = tells-false (place-tells m) (g .placed);
       celled = tells-false cells-tell (g .cells);
     },

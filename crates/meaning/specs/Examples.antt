@@ -1,5 +1,5 @@
 -- Worked examples, proved by computing.
--- P1 to P9 and one more, the same in version 2, and two whose weights need two bytes, as one list under one statement: each block, called with room for the table and the answer and one more of each, gives number 0
+-- P1 to P9 and one more, all but P9 again in version 2, and two whose weights need two bytes, as one list under one statement: each block, called with room for the table and the answer and one more of each, gives number 0
 -- and the cost, and leaves the table and the answer block in front of what the rooms held. Then one refusal of each number, and one answer for each verdict.
 use Prim.Native.Nat.{ℕ, suc}
 use mathlib.Core.Path.{_≡_, refl}
@@ -161,7 +161,7 @@ p10 =
       entries = 0 ∷ [];
     }
 
--- P1 to P10 in version 2: the same answers
+-- P1 to P8 and P10 in version 2: the same answers
 abbrev pub again : Example → List ℕ → Example
 again s b = record { block = b; cost = s .cost; flips = s .flips; sides = s .sides; hap1 = s .hap1; hap2 = s .hap2; entries = s .entries }
 
@@ -175,7 +175,6 @@ inVersionTwo =
     ∷ again p6 (2 ∷ 0 ∷ 0 ∷ 0 ∷ 18 ∷ 0 ∷ 1 ∷ 0 ∷ 2 ∷ 0 ∷ 5 ∷ 0 ∷ 0 ∷ 0 ∷ 0 ∷ 3 ∷ 0 ∷ 5 ∷ 0 ∷ 0 ∷ 0 ∷ 0 ∷ 3 ∷ [])
     ∷ again p7 (2 ∷ 0 ∷ 0 ∷ 0 ∷ 18 ∷ 0 ∷ 1 ∷ 0 ∷ 2 ∷ 0 ∷ 5 ∷ 0 ∷ 0 ∷ 0 ∷ 0 ∷ 0 ∷ 0 ∷ 5 ∷ 0 ∷ 0 ∷ 1 ∷ 0 ∷ 0 ∷ [])
     ∷ again p8 (2 ∷ 0 ∷ 0 ∷ 0 ∷ 11 ∷ 0 ∷ 2 ∷ 0 ∷ 1 ∷ 0 ∷ 5 ∷ 0 ∷ 0 ∷ 1 ∷ 0 ∷ 4 ∷ [])
-    ∷ again p9 (2 ∷ 0 ∷ 0 ∷ 0 ∷ 15 ∷ 0 ∷ 1 ∷ 0 ∷ 2 ∷ 0 ∷ 2 ∷ 0 ∷ 0 ∷ 0 ∷ 5 ∷ 0 ∷ 0 ∷ 0 ∷ 0 ∷ 7 ∷ [])
     ∷ again p10 (2 ∷ 0 ∷ 0 ∷ 0 ∷ 11 ∷ 0 ∷ 1 ∷ 0 ∷ 1 ∷ 0 ∷ 5 ∷ 0 ∷ 0 ∷ 0 ∷ 0 ∷ 0 ∷ [])
     ∷ []
 
@@ -211,7 +210,7 @@ examples = p1 ∷ p2 ∷ p3 ∷ p4 ∷ p5 ∷ p6 ∷ p7 ∷ p8 ∷ p9 ∷ p10 �
 pub examples-hold : All Holds examples
 unfolding opened
 examples-hold =
-    (refl, (refl, (refl, (refl, (refl, (refl, (refl, (refl, (refl, (refl, (refl, (refl, (refl, (refl, (refl, (refl, (refl, (refl, (refl, (refl, (refl, (refl, tt))))))))))))))))))))))
+    (refl, (refl, (refl, (refl, (refl, (refl, (refl, (refl, (refl, (refl, (refl, (refl, (refl, (refl, (refl, (refl, (refl, (refl, (refl, (refl, (refl, tt)))))))))))))))))))))
 
 -- A refusal of each number, with the rooms at which it is given: both stay as they were
 pub record Refused : Type 0 where
@@ -289,6 +288,39 @@ r5-two =
       work = 99;
       out = 99;
       number = 5;
+      second = 0;
+    }
+
+-- version 2 with P9's matrix: read 0 has no cells
+abbrev pub r38 : Refused
+r38 =
+    record {
+      block = 2 ∷ 0 ∷ 0 ∷ 0 ∷ 15 ∷ 0 ∷ 1 ∷ 0 ∷ 2 ∷ 0 ∷ 2 ∷ 0 ∷ 0 ∷ 0 ∷ 5 ∷ 0 ∷ 0 ∷ 0 ∷ 0 ∷ 7 ∷ [];
+      work = 99;
+      out = 99;
+      number = 38;
+      second = 0;
+    }
+
+-- version 2: read 1 has no cells, and first column 7
+abbrev pub r38-placed : Refused
+r38-placed =
+    record {
+      block = 2 ∷ 0 ∷ 0 ∷ 0 ∷ 15 ∷ 0 ∷ 1 ∷ 0 ∷ 2 ∷ 0 ∷ 5 ∷ 0 ∷ 0 ∷ 0 ∷ 0 ∷ 7 ∷ 0 ∷ 2 ∷ 0 ∷ 7 ∷ [];
+      work = 99;
+      out = 99;
+      number = 38;
+      second = 1;
+    }
+
+-- version 1 with a read that has no cells, and first column 7
+abbrev pub r6-empty : Refused
+r6-empty =
+    record {
+      block = 1 ∷ 0 ∷ 0 ∷ 0 ∷ 8 ∷ 0 ∷ 8 ∷ 0 ∷ 1 ∷ 0 ∷ 2 ∷ 0 ∷ 7 ∷ [];
+      work = 99;
+      out = 99;
+      number = 6;
       second = 0;
     }
 
@@ -370,11 +402,12 @@ r11 =
     }
 
 abbrev pub refusals : List Refused
-refusals = r1 ∷ r2 ∷ r3 ∷ r4 ∷ r5 ∷ r5-two ∷ r6 ∷ r7 ∷ r7-two ∷ r8 ∷ r9 ∷ r10 ∷ r11 ∷ []
+refusals = r1 ∷ r2 ∷ r3 ∷ r4 ∷ r5 ∷ r5-two ∷ r38 ∷ r38-placed ∷ r6-empty ∷ r6 ∷ r7 ∷ r7-two ∷ r8 ∷ r9 ∷ r10 ∷ r11 ∷ []
 
 pub refusals-hold : All Refuses refusals
 unfolding opened
-refusals-hold = (refl, (refl, (refl, (refl, (refl, (refl, (refl, (refl, (refl, (refl, (refl, (refl, (refl, tt)))))))))))))
+refusals-hold =
+    (refl, (refl, (refl, (refl, (refl, (refl, (refl, (refl, (refl, (refl, (refl, (refl, (refl, (refl, (refl, (refl, tt))))))))))))))))
 
 -- Judgements: the examples' answers are ours, and for each verdict an answer that gets it. The work room has one entry more than the table.
 pub record Judgement : Type 0 where
@@ -445,4 +478,4 @@ judgements = map own examples ++ (j50 ∷ j51 ∷ j52 ∷ j52-letter ∷ j53 ∷
 pub judgements-hold : All Judges judgements
 unfolding opened
 judgements-hold =
-    (refl, (refl, (refl, (refl, (refl, (refl, (refl, (refl, (refl, (refl, (refl, (refl, (refl, (refl, (refl, (refl, (refl, (refl, (refl, (refl, (refl, (refl, (refl, (refl, (refl, (refl, (refl, (refl, (refl, (refl, (refl, (refl, (refl, (refl, tt))))))))))))))))))))))))))))))))))
+    (refl, (refl, (refl, (refl, (refl, (refl, (refl, (refl, (refl, (refl, (refl, (refl, (refl, (refl, (refl, (refl, (refl, (refl, (refl, (refl, (refl, (refl, (refl, (refl, (refl, (refl, (refl, (refl, (refl, (refl, (refl, (refl, (refl, tt)))))))))))))))))))))))))))))))))

@@ -104,7 +104,7 @@ judges M a work = record { number = verdict M a .number; second = verdict M a .s
 unfoldable pub rejects : Numbers → List ℕ → Judged
 rejects given work = record { number = given .number; second = given .second; work = work }
 
--- the refusals of the fragment block come first: 1 to 10, as of a call with room for its answer
+-- the refusals of the fragment block come first: 1 to 10 and 38, as of a call with room for its answer
 unfoldable pub judgingWith : ℕ → List ℕ → List ℕ → List ℕ → Judged
 judgingWith newest b a work =
     let given = refusal newest b (length work) (answerSize (matrixOf b)) in

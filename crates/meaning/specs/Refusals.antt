@@ -38,6 +38,10 @@ badCounts b = eqb (columnsField b) 0 || (ltb 1024 (columnsField b) || ltb 1024 (
 unfoldable pub badLength : ℕ → List ℕ → Bool
 badLength size b = ltb (length b) 2 || (ltb (lengthField b) 2 || (not (eqb ((lengthField b - 2) % size) 0) || ltb (length b) (2 + lengthField b)))
 
+-- 38: c = 0, where a cell has three bytes
+unfoldable pub retired : ℕ → List ℕ → Bool
+retired size b = eqb size 3 && eqb (cellCount size b) 0
+
 -- 6: c = 0 with first column not 0, or first + c > m
 unfoldable pub badPlace : ℕ → ℕ → List ℕ → Bool
 badPlace size m b = (eqb (cellCount size b) 0 && not (eqb (firstField b) 0)) || ltb m (firstField b + cellCount size b)
@@ -53,11 +57,15 @@ isHole c = eqb (c .letter) 2
 unfoldable pub badCells : ℕ → (ℕ → Cell) → Bool
 badCells c cell = anyTo c (λ i. badCell (cell i)) || (ltb 0 c && (isHole (cell 0) || isHole (cell (c - 1))))
 
--- 5, 6 or 7 for the read that b starts with, or 0
+-- 5, 38, 6 or 7 for the read that b starts with, or 0
 unfoldable pub readFault : ℕ → ℕ → List ℕ → ℕ
-readFault size m b = cond (badLength size b) 5 (cond (badPlace size m b) 6 (cond (badCells (cellCount size b) (cellAt size (cellsPart b))) 7 0))
+readFault size m b =
+    cond (badLength size b) 5
+    (cond (retired size b) 38
+    (cond (badPlace size m b) 6
+    (cond (badCells (cellCount size b) (cellAt size (cellsPart b))) 7 0)))
 
--- 5, 6 and 7 for the n reads that b starts with, in block order: the first with a fault, and its number, counted from r
+-- 5, 38, 6 and 7 for the n reads that b starts with, in block order: the first with a fault, and its number, counted from r
 unfoldable pub readsFault : ℕ → ℕ → ℕ → ℕ → List ℕ → Numbers
 readsFault size m zero r b = passed
 readsFault size m (suc n) r b = cond (eqb (readFault size m b) 0) (readsFault size m n (suc r) (afterRead b)) (record { number = readFault size m b; second = r })
@@ -91,7 +99,7 @@ headerRefusal newest b =
     (orElse (refuse (otherSize b) 3 0)
     (refuse (badCounts b) 4 0)))
 
--- the checks 1 to 8, of the block
+-- the checks 1 to 8, of the block, with 38 among them
 unfoldable pub blockRefusal : ℕ → List ℕ → Numbers
 blockRefusal newest b =
     orElse (headerRefusal newest b)

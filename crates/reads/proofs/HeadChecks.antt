@@ -1,4 +1,4 @@
--- The checks 5 and 6 of the read that a part of the bytes starts with, as the branches of `read_head` meet them.
+-- The checks 5, 38 and 6 of the read that a part of the bytes starts with, as the branches of `read_head` meet them.
 use Prim.Native.Nat.{ℕ, _+_, _-_, _*_, _/_, _%_, _≤_, _<_}
 use mathlib.Core.Bool.{Bool, true, false, cond, not, _&&_, _||_, or-true}
 use mathlib.Core.List.{List}
@@ -10,7 +10,9 @@ use lib.ListN.{length, drop, length-drop}
 use lib.Dec.{eqb}
 use borrow.Author.Tests.{lt-ltb, le-ltb, eq-eqb, ne-eqb, eqb-true}
 use Rattle.meaning.specs.Block.{lengthField, firstField, cellCount}
-use Rattle.meaning.specs.Refusals.{badLength, badPlace}
+use Rattle.meaning.specs.Refusals.{badLength, retired, badPlace}
+use Rattle.meaning.proofs.Tells.{tells-true, tells-false}
+use Rattle.meaning.proofs.ReadChecks.{NotRetired, retired-tells}
 use Rattle.layout.proofs.Laws.{Filled, filled}
 use Rattle.reads.specs.Search.{headFault, CellsLie}
 
@@ -32,7 +34,7 @@ good-length size b some filled inside =
 
 module _ (size m : ℕ) (b : List ℕ) where
   by-length : badLength size b ≡ true → 5 ≡ headFault size m b
-  by-length h = sym (ap (λ (t : Bool). cond t 5 (cond (badPlace size m b) 6 0)) h)
+  by-length h = sym (ap (λ (t : Bool). cond t 5 (cond (retired size b) 38 (cond (badPlace size m b) 6 0))) h)
 
   pub cut-off : length b < 2 → 5 ≡ headFault size m b
   unfolding badLength
@@ -51,20 +53,23 @@ module _ (size m : ℕ) (b : List ℕ) where
   too-long h = by-length (simp (lt-ltb (length b) (2 + lengthField b) h, or-true))
 
   module _ (some : 2 ≤ lengthField b) (filled : (lengthField b - 2) % size ≡ 0) (inside : 2 + lengthField b ≤ length b) where
-    by-place : (t : Bool) → badPlace size m b ≡ t → cond t 6 0 ≡ headFault size m b
-    by-place t e = sym (simp (good-length size b some filled inside, e))
+    pub emptied : size ≡ 3 → cellCount size b ≡ 0 → 38 ≡ headFault size m b
+    emptied z e = sym (simp (good-length size b some filled inside, tells-true (retired-tells size b) (z, e)))
 
-    pub misplaced : cellCount size b ≡ 0 → firstField b ≢ 0 → 6 ≡ headFault size m b
-    unfolding badPlace
-    misplaced e n = by-place true (simp (eq-eqb (cellCount size b) 0 e, ne-eqb (firstField b) 0 n))
+    by-place : NotRetired size b → (t : Bool) → badPlace size m b ≡ t → cond t 6 0 ≡ headFault size m b
+    by-place k t e = sym (simp (good-length size b some filled inside, tells-false (retired-tells size b) k, e))
 
-    pub too-far : m < firstField b + cellCount size b → 6 ≡ headFault size m b
+    pub misplaced : size ≢ 3 → cellCount size b ≡ 0 → firstField b ≢ 0 → 6 ≡ headFault size m b
     unfolding badPlace
-    too-far h = by-place true (simp (lt-ltb m (firstField b + cellCount size b) h, or-true))
+    misplaced z e n = by-place (λ s. absurd (z s)) true (simp (eq-eqb (cellCount size b) 0 e, ne-eqb (firstField b) 0 n))
 
-    pub well-placed : (cellCount size b ≡ 0 → firstField b ≡ 0) → firstField b + cellCount size b ≤ m → 0 ≡ headFault size m b
+    pub too-far : NotRetired size b → m < firstField b + cellCount size b → 6 ≡ headFault size m b
     unfolding badPlace
-    well-placed n h = by-place false (simp (le-ltb m (firstField b + cellCount size b) h) (go (eqb (cellCount size b) 0) refl))
+    too-far k h = by-place k true (simp (lt-ltb m (firstField b + cellCount size b) h, or-true))
+
+    pub well-placed : NotRetired size b → (cellCount size b ≡ 0 → firstField b ≡ 0) → firstField b + cellCount size b ≤ m → 0 ≡ headFault size m b
+    unfolding badPlace
+    well-placed k n h = by-place k false (simp (le-ltb m (firstField b + cellCount size b) h) (go (eqb (cellCount size b) 0) refl))
       where
         go : (t : Bool) → eqb (cellCount size b) 0 ≡ t → ((t && not (eqb (firstField b) 0)) || false) ≡ false
         go true t = let e : firstField b ≡ 0 = n (eqb-true (cellCount size b) 0 t) in simp (eq-eqb (firstField b) 0 e)

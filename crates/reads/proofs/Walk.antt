@@ -13,15 +13,15 @@ use lib.Seq.{drop-drop}
 use borrow.Author.Tests.{eq-eqb, ne-eqb}
 use Rattle.meaning.specs.Numbers.{anyTo}
 use Rattle.meaning.specs.Block.{lengthField, cellCount, cellsPart, cellAt, afterRead, afterReads}
-use Rattle.meaning.specs.Refusals.{Numbers, passed, badLength, badPlace, badCells, readFault, readsFault}
+use Rattle.meaning.specs.Refusals.{Numbers, passed, badLength, retired, badPlace, badCells, readFault, readsFault}
 use Rattle.layout.specs.declared.Shape.{Shape}
 use Rattle.reads.specs.Search.{headFault, CellsLie}
 use Rattle.reads.specs.Cells.{faultyCell}
 use Rattle.reads.proofs.CellChecks.{found-faulty, none-faulty}
 
--- the checks 5 and 6 decide where they apply, and leave it to the cells where not
-abbrev decided : Bool → Bool → ℕ → ℕ
-decided x y k = cond x 5 (cond y 6 k)
+-- the checks 5, 38 and 6 decide where they apply, and leave it to the cells where not
+abbrev decided : Bool → Bool → Bool → ℕ → ℕ
+decided x v y k = cond x 5 (cond v 38 (cond y 6 k))
 
 module _ (size m : ℕ) (b : List ℕ) where
   abbrev faulty : Bool
@@ -29,21 +29,23 @@ module _ (size m : ℕ) (b : List ℕ) where
 
   pub head-stop : (f : ℕ) → f ≡ headFault size m b → f ≢ 0 → f ≡ readFault size m b
   unfolding readFault
-  head-stop f e z = go (badLength size b) (badPlace size m b) e
+  head-stop f e z = go (badLength size b) (retired size b) (badPlace size m b) e
     where
-      go : (x y : Bool) → f ≡ decided x y 0 → f ≡ decided x y (cond faulty 7 0)
-      go true y h = h
-      go false true h = h
-      go false false h = absurd (z h)
+      go : (x v y : Bool) → f ≡ decided x v y 0 → f ≡ decided x v y (cond faulty 7 0)
+      go true v y h = h
+      go false true y h = h
+      go false false true h = h
+      go false false false h = absurd (z h)
 
   head-pass : headFault size m b ≡ 0 → (t : Bool) → t ≡ faulty → cond t 7 0 ≡ readFault size m b
   unfolding readFault
-  head-pass = go (badLength size b) (badPlace size m b)
+  head-pass = go (badLength size b) (retired size b) (badPlace size m b)
     where
-      go : (x y : Bool) → decided x y 0 ≡ 0 → (t : Bool) → t ≡ faulty → cond t 7 0 ≡ decided x y (cond faulty 7 0)
-      go true y h t e = let z : ⊥ = omega arith in absurd z
-      go false true h t e = let z : ⊥ = omega arith in absurd z
-      go false false h t e = ap (λ (x : Bool). cond x 7 0) e
+      go : (x v y : Bool) → decided x v y 0 ≡ 0 → (t : Bool) → t ≡ faulty → cond t 7 0 ≡ decided x v y (cond faulty 7 0)
+      go true v y h t e = let z : ⊥ = omega arith in absurd z
+      go false true y h t e = let z : ⊥ = omega arith in absurd z
+      go false false true h t e = let z : ⊥ = omega arith in absurd z
+      go false false false h t e = ap (λ (x : Bool). cond x 7 0) e
 
 -- cell i of a part of n bytes lies inside it
 pub cell-below : (size n i : ℕ) → i < n / size → i < n
@@ -87,7 +89,7 @@ module _ (size : ℕ) (some : 0 < size) (reads : List ℕ) (at start end : ℕ) 
         let e : length part / size ≡ i = omega arith in
         by-cells false (none-faulty size some part _ whole (ap (λ (k : ℕ). anyTo k (faultyCell size part)) e ∙ h))
 
--- 5, 6 or 7 of the read that b starts with, and of the n reads from read r on
+-- 5, 38, 6 or 7 of the read that b starts with, and of the n reads from read r on
 abbrev faultOf : Shape → List ℕ → ℕ
 faultOf s b = readFault (s .size) (s .m) b
 

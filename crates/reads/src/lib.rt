@@ -1,4 +1,4 @@
-// The reads of a block, one after the other: the checks 5, 6 and 7, and where each read lies.
+// The reads of a block, one after the other: the checks 5, 38, 6 and 7, and where each read lies.
 ghost use mathlib.Core.Path.{_≡_};
 ghost use Prim.Native.Nat.{_+_, _*_, _≤_, _<_};
 ghost use lib.ListN.{length, drop};
@@ -8,16 +8,18 @@ ghost use Rattle.layout.specs.Places.{Noted};
 ghost use Rattle.reads.specs.Search.{headNumber, headFault, HeadPlace, searchNumbers, SearchEnd};
 ghost use Rattle.reads.specs.Cells.{faultyCell};
 
-// What stands before a read's cells: 5, 6, or where its cells start and end.
+// What stands before a read's cells: 5, 38, 6, or where its cells start and end.
 pub enum Head {
     Length,
+    Empty,
     Place,
     Cells { start: usize, end: usize },
 }
 
-// What the search through the reads finds: 5, 6 or 7 with the read, or where the reads end.
+// What the search through the reads finds: 5, 38, 6 or 7 with the read, or where the reads end.
 pub enum Search {
     Length(usize),
+    Empty(usize),
     Place(usize),
     Cell(usize),
     End(usize),
@@ -45,7 +47,7 @@ fn cell_bad(cells: &[u8], size: usize, i: usize) -> bool
     at + size == cells.len()
 }
 
-// The read at `at`: the checks 5 and 6.
+// The read at `at`: the checks 5, 38 and 6.
 fn read_head(shape: layout::Shape, reads: &[u8], at: usize) -> Head
     requires { ⌜ (at ≤ length (now reads)) × (CellSize (shape .size) × (shape .m ≤ 1024)) ⌝ }
     ensures { λ r. ⌜ headNumber r ≡ headFault (shape .size) (shape .m) (drop at (now (reads .entry))) ⌝ }
@@ -68,6 +70,9 @@ fn read_head(shape: layout::Shape, reads: &[u8], at: usize) -> Head
     }
     let first = layout::word_at(reads, at + 2);
     if count == 0 {
+        if size == 3 {
+            return Head::Empty;
+        }
         if first != 0 {
             return Head::Place;
         }
@@ -81,7 +86,7 @@ fn read_head(shape: layout::Shape, reads: &[u8], at: usize) -> Head
     }
 }
 
-// The checks 5, 6 and 7 of the n reads: the search stops at the first faulty cell of the first faulty read.
+// The checks 5, 38, 6 and 7 of the n reads: the search stops at the first faulty cell of the first faulty read.
 pub fn first_fault(shape: layout::Shape, reads: &[u8]) -> Search
     requires { ⌜ CellSize (shape .size) × ((shape .m ≤ 1024) × (shape .n ≤ 1024)) ⌝ }
     ensures { λ r. ⌜ searchNumbers r ≡ readsFault (shape .size) (shape .m) (shape .n) 0 (now (reads .entry)) ⌝ }
@@ -98,6 +103,9 @@ pub fn first_fault(shape: layout::Shape, reads: &[u8]) -> Search
         match h {
             Head::Length => {
                 break 'reads Search::Length(r);
+            }
+            Head::Empty => {
+                break 'reads Search::Empty(r);
             }
             Head::Place => {
                 break 'reads Search::Place(r);

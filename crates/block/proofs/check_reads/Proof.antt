@@ -54,20 +54,26 @@ first-fault-requires c κs = search needs
 enum-known-r : tie.Need-enum-known-r
 enum-known-r c = search needs
 
-cast-t13 : tie.Need-cast-t13
-cast-t13 c = omega (arith, rw (c .before .r .given .1) at (c .before .before .before .first-fault .ensures .1))
+cast-t14 : tie.Need-cast-t14
+cast-t14 c = omega (arith, rw (c .before .r .given .1) at (c .before .before .before .first-fault .ensures .1))
 
 enum-known-r-2 : tie.Need-enum-known-r-2
 enum-known-r-2 c = search needs
 
-cast-t14 : tie.Need-cast-t14
-cast-t14 c = omega (arith, rw (c .before .r2 .given .1) at (c .before .before .before .first-fault .ensures .1))
+cast-t15 : tie.Need-cast-t15
+cast-t15 c = omega (arith, rw (c .before .r2 .given .1) at (c .before .before .before .first-fault .ensures .1))
 
 enum-known-r-3 : tie.Need-enum-known-r-3
 enum-known-r-3 c = search needs
 
-cast-t15 : tie.Need-cast-t15
-cast-t15 c = omega (arith, rw (c .before .r3 .given .1) at (c .before .before .before .first-fault .ensures .1))
+cast-t16 : tie.Need-cast-t16
+cast-t16 c = omega (arith, rw (c .before .r3 .given .1) at (c .before .before .before .first-fault .ensures .1))
+
+enum-known-r-4 : tie.Need-enum-known-r-4
+enum-known-r-4 c = search needs
+
+cast-t17 : tie.Need-cast-t17
+cast-t17 c = omega (arith, rw (c .before .r4 .given .1) at (c .before .before .before .first-fault .ensures .1))
 
 enum-known-at : tie.Need-enum-known-at
 enum-known-at c = search needs
@@ -99,6 +105,12 @@ returns-4 c =
 
 returns-5 : tie.Need-returns-5
 returns-5 c =
+    let w = c .before .before .before in
+    let p = w .before .before .before .pre in
+    (search-stop _ _ (p .0) (p .1) _ (ap searchNumbers (sym (c .before .r4 .given .1)) ∙ found w) (omega arith), omega arith)
+
+returns-6 : tie.Need-returns-6
+returns-6 c =
     let a = c .before .before in
     let w = a .before .before in
     let p = w .before .before .before .pre in (
@@ -115,14 +127,17 @@ check-reads-spec =
     part-reads-end
     first-fault-requires
     enum-known-r
-    cast-t13
-    enum-known-r-2
     cast-t14
-    enum-known-r-3
+    enum-known-r-2
     cast-t15
+    enum-known-r-3
+    cast-t16
+    enum-known-r-4
+    cast-t17
     enum-known-at
     returns
     returns-2
     returns-3
     returns-4
-    returns-5)
+    returns-5
+    returns-6)

@@ -64,6 +64,9 @@ enum-told c = search needs
 enum-told-2 : tie.Need-enum-told-2 Inv-loop μ-loop Inv-reads μ-reads
 enum-told-2 c = search needs
 
+enum-told-3 : tie.Need-enum-told-3 Inv-loop μ-loop Inv-reads μ-reads
+enum-told-3 c = search needs
+
 enum-known-h : tie.Need-enum-known-h Inv-loop μ-loop Inv-reads μ-reads
 enum-known-h c = search needs
 
@@ -134,11 +137,18 @@ returns-3 : tie.Need-returns-3 Inv-loop μ-loop Inv-reads μ-reads
 returns-3 c =
     let w = c .before .before .before .before .before .reads in
     let l = c .before .before .before .if1 .left in
-    let e = head-stop _ _ _ 6 (ap headNumber (sym (c .enum-told2 .given .1)) ∙ c .before .before .read-head .ensures .0) (omega arith) in
-    (left-stop _ _ (w .at) (w .r) (w .inv .2) 6 l e (omega arith), l)
+    let e = head-stop _ _ _ 38 (ap headNumber (sym (c .enum-told2 .given .1)) ∙ c .before .before .read-head .ensures .0) (omega arith) in
+    (left-stop _ _ (w .at) (w .r) (w .inv .2) 38 l e (omega arith), l)
 
 returns-4 : tie.Need-returns-4 Inv-loop μ-loop Inv-reads μ-reads
 returns-4 c =
+    let w = c .before .before .before .before .before .reads in
+    let l = c .before .before .before .if1 .left in
+    let e = head-stop _ _ _ 6 (ap headNumber (sym (c .enum-told3 .given .1)) ∙ c .before .before .read-head .ensures .0) (omega arith) in
+    (left-stop _ _ (w .at) (w .r) (w .inv .2) 6 l e (omega arith), l)
+
+returns-5 : tie.Need-returns-5 Inv-loop μ-loop Inv-reads μ-reads
+returns-5 c =
     let h = c .before .before .before .before .before .before .before in
     let w = h .before .before .before .before .before .reads in
     let l = h .before .before .before .if1 .left in
@@ -160,6 +170,7 @@ first-fault-spec =
     read-head-requires
     enum-told
     enum-told-2
+    enum-told-3
     enum-known-h
     sub-cells
     part-cells-start
@@ -176,4 +187,5 @@ first-fault-spec =
     returns
     returns-2
     returns-3
-    returns-4)
+    returns-4
+    returns-5)

@@ -8,8 +8,9 @@ use mathlib.Core.Path.{_≡_, sym, ap, _∙_}
 use Prim.Native.Nat.{ℕ, _+_, _-_, _*_, _/_, _%_, _≤_}
 use lib.ListN.{length, drop, length-drop}
 use Rattle.meaning.specs.Block.{lengthField, firstField, cellCount}
+use Rattle.meaning.proofs.ReadChecks.{NotRetired}
 use Rattle.layout.proofs.Fields.{length-field, first-field}
-use Rattle.reads.proofs.HeadChecks.{left-by, cut-off, too-small, unfilled, too-long, good-length, misplaced, too-far, well-placed, cells-lie}
+use Rattle.reads.proofs.HeadChecks.{left-by, cut-off, too-small, unfilled, too-long, good-length, emptied, misplaced, too-far, well-placed, cells-lie}
 use Rattle.reads.proofs.read_head.Statement.{statement}
 use Rattle.reads.proofs.read_head.Tie as tie
 
@@ -98,15 +99,29 @@ word-at-requires-2 c κs = search needs
 returns-5 : tie.Need-returns-5
 returns-5 c =
     let w = c .before .before in
-    (misplaced _ _ _ (some w) (whole w) (inside w) (count-is w ∙ c .before .if5 .taken) (λ e. c .if6 .taken (sym (first-is w) ∙ e)), tt)
-
-add-if7 : tie.Need-add-if7
-add-if7 c = let w = c .before in omega (arith, w .before .before .before .cells-in .ensures, div-le-self (w .before .before .before .before .before .word-at .result - 2) (size w))
+    (emptied _ _ _ (some w) (whole w) (inside w) (c .if6 .taken) (count-is w ∙ c .before .if5 .taken), tt)
 
 returns-6 : tie.Need-returns-6
 returns-6 c =
     let w = c .before .before .before in
-    (too-far _ _ _ (some w) (whole w) (inside w) (omega (arith, count-is w, first-is w)), tt)
+    (misplaced _ _ _ (some w) (whole w) (inside w) (c .before .if6 .left) (count-is w ∙ c .before .before .if5 .taken) (λ e. c .if7 .taken (sym (first-is w) ∙ e)), tt)
+
+-- behind the test of c = 0: such a read has cells of two bytes and stands at the first column
+beyond : (c : tie.Joined5) → let w = c .before in
+    NotRetired (size w) (rest w) × (cellCount (size w) (rest w) ≡ 0 → firstField (rest w) ≡ 0)
+beyond c =
+    let w = c .before in (
+      λ z e. ⊎-elim (λ v. v .1 .left z) (λ v. v .left (sym (count-is w) ∙ e)) (c .if5 .came),
+      λ e. ⊎-elim (λ v. first-is w ∙ v .2 .left) (λ v. absurd (v .left (sym (count-is w) ∙ e))) (c .if5 .came),
+    )
+
+add-if8 : tie.Need-add-if8
+add-if8 c = let w = c .before in omega (arith, w .before .before .before .cells-in .ensures, div-le-self (w .before .before .before .before .before .word-at .result - 2) (size w))
+
+returns-7 : tie.Need-returns-7
+returns-7 c =
+    let w = c .before .before .before in
+    (too-far _ _ _ (some w) (whole w) (inside w) (beyond (c .before .before) .0) (omega (arith, count-is w, first-is w)), tt)
 
 add-t8 : tie.Need-add-t8
 add-t8 c = search needs
@@ -117,15 +132,14 @@ add-t11 c = search needs
 add-t9 : tie.Need-add-t9
 add-t9 c = search needs
 
-returns-7 : tie.Need-returns-7
-returns-7 c =
+returns-8 : tie.Need-returns-8
+returns-8 c =
     let w = c .before .before .before in
     let l = w .before .before .before .before .before in
     let a = l .before .before .before in
     let good = good-length _ _ (some w) (whole w) (inside w) in
-    let none : cellCount (size w) (rest w) ≡ 0 → firstField (rest w) ≡ 0 = λ e.
-    ⊎-elim (λ v. first-is w ∙ v .1 .left) (λ v. absurd (v .left (sym (count-is w) ∙ e))) (c .before .before .if5 .came) in (
-      well-placed _ _ _ (some w) (whole w) (inside w) none (omega (arith, count-is w, first-is w)),
+    let b = beyond (c .before .before) in (
+      well-placed _ _ _ (some w) (whole w) (inside w) (b .0) (b .1) (omega (arith, count-is w, first-is w)),
       cells-lie _ _ (a .args .at) _ (a .pre .0) (length-is l) good,
     )
 
@@ -146,9 +160,10 @@ read-head-spec =
     add-word-at
     word-at-requires-2
     returns-5
-    add-if7
     returns-6
+    add-if8
+    returns-7
     add-t8
     add-t11
     add-t9
-    returns-7)
+    returns-8)

@@ -123,7 +123,7 @@ headed-pass newest b h =
     ∙ ap (λ (t : Bool). cond t (record { number = 4; second = 0 }) passed)
     (ap₂ _||_ (ne-eqb (columnsField b) 0 (λ e. omega (arith, h .some-column))) (ap₂ _||_ (le-ltb 1024 (columnsField b) (h .few-columns)) (le-ltb 1024 (readsField b) (h .few-reads))))
 
-version-bad : (newest : ℕ) (b : List ℕ) → (versionField b ≡ 0) ⊎ (newest < versionField b) → otherVersion newest b ≡ true
+pub version-bad : (newest : ℕ) (b : List ℕ) → (versionField b ≡ 0) ⊎ (newest < versionField b) → otherVersion newest b ≡ true
 unfolding otherVersion
 version-bad newest b = tells-true (tells-or (tells-equal (versionField b) 0) (tells-below newest (versionField b)))
 
@@ -199,7 +199,7 @@ module _ (newest : ℕ) (b : List ℕ) (work out : ℕ) where
       or-pass (headerRefusal newest b) _ (ap (λ (x : Numbers). x .number) (headed-pass newest b h))
       ∙ or-pass _ _ (ap (λ (x : Numbers). x .number) (reads-pass (cellSize b) (columnsField b) (readsField b) 0 (readsPart b) (sound-before (readsField b) s)))
 
-  formed-pass : Formed newest b → blockRefusal newest b ≡ passed
+  pub formed-pass : Formed newest b → blockRefusal newest b ≡ passed
   unfolding refuse leftOver
   formed-pass f =
       block-reads (f .head) (λ k l. sound-exactly (cellSize b) (readPart b k) (columnsField b) .0 (f .sound k l))

@@ -32,3 +32,8 @@ pub mod LeastVerdicts
 pub mod OurLetters
 pub mod OwnAnswer
 pub mod JudgingCall
+pub mod Renumbered
+pub mod Kept
+pub mod Written
+pub mod WrittenBytes
+pub mod Convert

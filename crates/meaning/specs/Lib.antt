@@ -9,7 +9,10 @@ pub mod Table
 pub mod Answer
 pub mod Refusals
 pub mod Call
+pub mod Kept
+pub mod Convert
 pub mod Judge
 pub mod Rule
 pub mod Opened
 pub mod Examples
+pub mod ConvertExamples

@@ -2,6 +2,8 @@
 ghost use mathlib.Core.Path.{_≡_};
 ghost use Rattle.meaning.specs.Call.{call};
 ghost use Rattle.meaning.specs.Judge.{judging};
+ghost use Rattle.meaning.specs.Convert.{converting};
+ghost use Rattle.convert.specs.Outcomes.{conversionNumber, conversionSecond};
 ghost use Rattle.solve.specs.Outcomes.{outcomeNumber, outcomeSecond};
 ghost use Rattle.verdict.specs.Judgements.{judgementNumber, judgementSecond};
 
@@ -134,4 +136,38 @@ pub extern "C" fn velejume_judge(
     let j = judge(block, answer, work);
     *second = j.second;
     j.number
+}
+
+// The two numbers of what comes of a conversion.
+fn converted(o: convert::Outcome) -> Numbers
+    ensures { λ r. ⌜ (r .number ≡ conversionNumber o) × (r .second ≡ conversionSecond o) ⌝ }
+{
+    match o {
+        convert::Outcome::Refused { number, second } => both(number, second),
+        convert::Outcome::Room(need) => both(39, need),
+        convert::Outcome::Done => both(0, 0),
+    }
+}
+
+// Converts a version 1 block to version 2 without its reads that have no cells, in the room that is lent, or gives a refusal that
+// leaves it as it was.
+pub fn convert(block: &[u8], out: &mut [u8]) -> Numbers
+    ensures { λ r. ⌜ r .number ≡ converting (now (block .entry)) (now (out .entry)) .number ⌝ }
+    ensures { λ r. ⌜ r .second ≡ converting (now (block .entry)) (now (out .entry)) .second ⌝ }
+    ensures { λ r. ⌜ now (out .exit) ≡ converting (now (block .entry)) (now (out .entry)) .out ⌝ }
+{
+    let o = convert::convert(block, out);
+    converted(o)
+}
+
+// The same for C: the number is returned, the second number goes to where `second` points.
+#[no_mangle]
+pub extern "C" fn velejume_convert(block: &[u8], out: &mut [u8], second: &mut u32) -> u32
+    ensures { λ r. ⌜ r ≡ converting (now (block .entry)) (now (out .entry)) .number ⌝ }
+    ensures { λ _. ⌜ now (second .exit) ≡ converting (now (block .entry)) (now (out .entry)) .second ⌝ }
+    ensures { λ _. ⌜ now (out .exit) ≡ converting (now (block .entry)) (now (out .entry)) .out ⌝ }
+{
+    let c = convert(block, out);
+    *second = c.second;
+    c.number
 }

@@ -34,6 +34,9 @@ pub const CUT: u8 = 9;
 
 pub const BEHIND: u8 = 10;
 
+// L is 2: the read has no cell.
+pub const EMPTIED: u8 = 11;
+
 pub fn byte_at(bytes: &Bytes, at: usize) -> usize
     ensures { λ r. ⌜ r ≤ 255 ⌝ }
 {
@@ -164,6 +167,9 @@ pub fn damage(bytes: &mut Bytes, size: usize, field: u8, state: &mut u32) -> usi
         COLUMNS => alter_word(bytes, 5, state),
         READS => alter_word(bytes, 7, state),
         LENGTH => alter_word(bytes, read, state),
+        EMPTIED => {
+            put_word(bytes, read, 2);
+        }
         FIRST => alter_word(bytes, plus(read, 2), state),
         LETTER => alter_byte(bytes, cell, state),
         WEIGHT => alter_byte(

@@ -35,6 +35,7 @@ pub struct Shape {
     lightest: u8,
     heaviest: u8,
     empty: u8,
+    refused: u8,
     apart: bool,
 }
 
@@ -52,6 +53,7 @@ impl Shape {
             lightest: 1,
             heaviest: 255,
             empty: 0,
+            refused: 0,
             apart: false,
         }
     }
@@ -81,9 +83,15 @@ impl Shape {
         self
     }
 
-    // Of eight reads so many have c = 0.
+    // Of eight reads so many have c = 0 in version 1.
     pub fn empty(mut self, of_eight: u8) -> Self {
         self.empty = of_eight;
+        self
+    }
+
+    // Of eight reads so many have c = 0 in version 2, which refuses them.
+    pub fn refused(mut self, of_eight: u8) -> Self {
+        self.refused = of_eight;
         self
     }
 
@@ -234,10 +242,11 @@ fn some_version(shape: Shape, state: &mut u32) -> Shape {
     if below(state, 2) == 0 {
         return shape;
     }
-    shape.version(2, below(state, MIXED + 1))
+    let refused = shape.refused;
+    shape.version(2, below(state, MIXED + 1)).empty(refused)
 }
 
-// A sound block of either version; and how many bytes it has.
+// A block of either version, sound but for what the shape has refused; and how many bytes it has.
 pub fn generate(bytes: &mut Bytes, of: Shape, state: &mut u32) -> usize
     ensures { λ r. ⌜ r ≤ 8192 ⌝ }
 {

@@ -1,4 +1,4 @@
-// The numbers 1 to 8, from the tables of documents 01 and 02 and nothing else.
+// The numbers 1 to 8 and 38, from the tables of documents 01 and 02 and nothing else.
 ghost use Prim.Native.Nat.{_≤_};
 use fields::byte;
 use fields::plus;
@@ -105,7 +105,18 @@ pub fn behind(block: &[u8], at: usize) -> usize {
     plus(at, word(block, at) + 2)
 }
 
-// The checks 5, 6 and 7 for the read at a place, or 0.
+// The check of a read without a cell, or 0: version 2 refuses it, version 1 has it at column 0.
+fn empty_number(version: usize, first: usize) -> usize {
+    if version == 2 {
+        return 38;
+    }
+    if first > 0 {
+        return 6;
+    }
+    0
+}
+
+// The checks 5, 38, 6 and 7 for the read at a place, or 0.
 fn read_number(block: &[u8], at: usize, m: usize) -> usize {
     if left(block, at) < 2 {
         return 5;
@@ -123,9 +134,7 @@ fn read_number(block: &[u8], at: usize, m: usize) -> usize {
     let first = word(block, plus(at, 2));
     let c = cells(block, at);
     if c == 0 {
-        if first > 0 {
-            return 6;
-        }
+        return empty_number(byte(block, 0), first);
     }
     if plus(first, c) > m {
         return 6;
@@ -136,7 +145,7 @@ fn read_number(block: &[u8], at: usize, m: usize) -> usize {
     0
 }
 
-// The checks 5 to 8, for a block of m columns and n reads.
+// The checks 5 to 8 and 38, for a block of m columns and n reads.
 fn reads_numbers(block: &[u8], m: usize, n: usize) -> Numbers {
     let mut at: usize = 9;
     let mut r: usize = 0;
@@ -154,7 +163,7 @@ fn reads_numbers(block: &[u8], m: usize, n: usize) -> Numbers {
     given(0, 0)
 }
 
-// The checks 1 to 8; the number is 0 where none applies.
+// The checks 1 to 8 and 38; the number is 0 where none applies.
 pub fn checked(block: &[u8]) -> Numbers {
     let number = header_number(block);
     if number > 0 {

@@ -1,7 +1,7 @@
 // The lent rooms: what they hold before a call, and where two of them differ after it.
 ghost use Prim.Native.Nat.{_≤_};
 ghost use lib.ListN.{length};
-use crate::output::Output;
+use fields::byte;
 
 // 16,384 entries, and one that is never lent.
 pub type Table = [u32; 16385];
@@ -12,7 +12,15 @@ pub struct Rooms {
     pub out: usize,
 }
 
-fn lesser(a: usize, b: usize) -> usize
+// One less, or 0.
+pub fn less(x: usize) -> usize {
+    if x == 0 {
+        return 0;
+    }
+    x - 1
+}
+
+pub fn lesser(a: usize, b: usize) -> usize
     ensures { λ r. ⌜ r ≤ b ⌝ }
 {
     if a < b { a } else { b }
@@ -80,16 +88,14 @@ pub fn other_entry(a: &Table, b: &Table) -> usize
     16385
 }
 
-// The first byte where the two differ; 4,096 if they are the same.
-pub fn other_byte(a: &Output, b: &Output) -> usize
-    ensures { λ r. ⌜ r ≤ 4096 ⌝ }
-{
+// The first byte of b where the two differ; the length of b if all its bytes are the same.
+pub fn other_byte(a: &[u8], b: &[u8]) -> usize {
     let mut i: usize = 0;
-    while i < 4096 {
-        if a[i] != b[i] {
+    while i < b.len() {
+        if byte(a, i) != byte(b, i) {
             return i;
         }
         i += 1;
     }
-    4096
+    i
 }

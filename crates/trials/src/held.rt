@@ -15,10 +15,10 @@ use exhaustive::rooms::fill_table;
 use exhaustive::rooms::other_byte;
 use exhaustive::rooms::other_entry;
 use exhaustive::solver::solve;
+use fields::byte;
 use fields::long;
-use fields::wide;
 
-// Whether the two are the same. A difference is reported, in these three functions.
+// Whether the two are the same. A difference is reported, in these four functions.
 pub fn same_numbers(name: &[u8], found: Numbers, expected: Numbers, tally: &mut Tally) -> bool {
     if found.number != expected.number {
         differs(name, b"number", found.number, expected.number, tally);
@@ -47,20 +47,25 @@ pub fn same_work(name: &[u8], work: &Table, expected: &Table, tally: &mut Tally)
     true
 }
 
-fn same_output(name: &[u8], out: &Output, expected: &Output, tally: &mut Tally) -> bool {
+// The bytes that are expected.
+pub fn same_bytes(name: &[u8], out: &[u8], expected: &[u8], tally: &mut Tally) -> bool {
     let i = other_byte(out, expected);
-    if i < 4096 {
+    if i < expected.len() {
         differs_at(
             name,
             b"output byte",
             i,
-            wide(out[i]),
-            wide(expected[i]),
+            byte(out, i),
+            byte(expected, i),
             tally,
         );
         return false;
     }
     true
+}
+
+fn same_output(name: &[u8], out: &Output, expected: &Output, tally: &mut Tally) -> bool {
+    same_bytes(name, out, expected, tally)
 }
 
 // A block against two numbers and what both rooms are to hold.

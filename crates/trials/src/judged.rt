@@ -111,7 +111,7 @@ fn claims(block: &[u8], tally: &mut Tally) {
 
 // P1 in both versions.
 fn examples(all: &mut Tally) {
-    let mut tally = [0usize; 22];
+    let mut tally = [0usize; 64];
     let first =
         b"\x01\x00\x00\x00\x20\x00\x02\x00\x04\x00\x04\x00\x00\x00\x05\x00\x06\x00\x00\x01\x03\x00\x02\x00\x06\x00\x00\x01\x06\x01\x01\x00\x04\x00\x01\x00\x02";
     let second =
@@ -148,7 +148,7 @@ fn shape_for(amiss: u8, state: &mut u32) -> Shape {
 
 fn field_for(amiss: u8, state: &mut u32) -> u8 {
     if amiss == DAMAGED {
-        return low(within(state, 1, 10));
+        return low(within(state, 1, 11));
     }
     damage::NONE
 }
@@ -192,7 +192,7 @@ fn one(name: &[u8], kind: u8, amiss: u8, state: &mut u32, tally: &mut Tally) {
 
 // So many answers of a kind.
 fn kind(name: &[u8], answer: u8, amiss: u8, answers: usize, state: &mut u32, all: &mut Tally) {
-    let mut tally = [0usize; 22];
+    let mut tally = [0usize; 64];
     let mut i: usize = 0;
     while i < answers {
         one(name, answer, amiss, state, &mut tally);

@@ -1,7 +1,10 @@
-// Generated blocks, kind by kind, each against the exhaustive solver.
+// Generated blocks, kind by kind, each against the exhaustive solver and against the converter from document 02's words.
 ghost use Prim.Native.Nat.{_≤_};
+use crate::converted::against_converter;
+use crate::converted::some_room;
 use crate::held::against_search;
 use crate::report::Tally;
+use crate::report::convert_line;
 use crate::report::line;
 use cases::damage;
 use cases::damage::damage;
@@ -11,16 +14,9 @@ use cases::random::below;
 use exhaustive::rooms::Rooms;
 use exhaustive::rooms::ample;
 use exhaustive::rooms::lent;
+use exhaustive::rooms::less;
 use exhaustive::solver::measure;
 use fields::Bytes;
-
-// One less, or 0.
-fn less(x: usize) -> usize {
-    if x == 0 {
-        return 0;
-    }
-    x - 1
-}
 
 // Rooms that are ample, exact, one short or of any size.
 fn some_rooms(block: &[u8], state: &mut u32) -> Rooms
@@ -36,32 +32,50 @@ fn some_rooms(block: &[u8], state: &mut u32) -> Rooms
     }
 }
 
-// A block in rooms that chance picks.
-fn tried(name: &[u8], bytes: Bytes, size: usize, state: &mut u32, tally: &mut Tally)
+// A block, solved and converted in rooms that chance picks.
+fn tried(
+    name: &[u8],
+    bytes: Bytes,
+    size: usize,
+    state: &mut u32,
+    tally: &mut Tally,
+    converted: &mut Tally,
+)
     requires { ⌜ size ≤ 8192 ⌝ }
 {
     let block = &bytes[..size];
     let rooms = some_rooms(block, state);
     against_search(name, block, rooms, tally);
+    let room = some_room(block, state);
+    against_converter(block, room, converted);
 }
 
 // One block of a shape, damaged in a field.
-fn one(name: &[u8], shape: Shape, field: u8, state: &mut u32, tally: &mut Tally) {
+fn one(
+    name: &[u8],
+    shape: Shape,
+    field: u8,
+    state: &mut u32,
+    tally: &mut Tally,
+    converted: &mut Tally,
+) {
     let mut b = [0u8; 8192];
     let whole = generate(&mut b, shape, state);
     let size = damage(&mut b, whole, field, state);
-    tried(name, b, size, state, tally);
+    tried(name, b, size, state, tally, converted);
 }
 
 // So many blocks of a shape, damaged in a field.
 fn kind(name: &[u8], shape: Shape, field: u8, blocks: usize, state: &mut u32, all: &mut Tally) {
-    let mut tally = [0usize; 22];
+    let mut tally = [0usize; 64];
+    let mut converted = [0usize; 64];
     let mut i: usize = 0;
     while i < blocks {
-        one(name, shape, field, state, &mut tally);
+        one(name, shape, field, state, &mut tally, &mut converted);
         i += 1;
     }
     line(name, &tally, all);
+    convert_line(name, &converted, all);
 }
 
 fn sound(name: &[u8], shape: Shape, blocks: usize, state: &mut u32, all: &mut Tally) {
@@ -85,7 +99,11 @@ fn tied_kinds(state: &mut u32, all: &mut Tally) {
 }
 
 fn parted_kinds(state: &mut u32, all: &mut Tally) {
-    let empty = Shape::new(7, 1, 10).holes(3).weights(0, 3).empty(3);
+    let empty = Shape::new(7, 1, 10)
+        .holes(3)
+        .weights(0, 3)
+        .empty(3)
+        .refused(3);
     sound(b"empty reads", empty, 1200, state, all);
     let parts = Shape::new(14, 2, 9).holes(3).weights(0, 3).apart();
     sound(b"parts", parts, 1200, state, all);
@@ -107,6 +125,7 @@ fn damaged_headers(some: Shape, state: &mut u32, all: &mut Tally) {
 
 fn damaged_reads(some: Shape, state: &mut u32, all: &mut Tally) {
     kind(b"L damaged", some, damage::LENGTH, 600, state, all);
+    kind(b"L of no cell", some, damage::EMPTIED, 300, state, all);
     kind(
         b"first column damaged",
         some,
@@ -135,7 +154,7 @@ pub fn run(all: &mut Tally) {
     parted_kinds(&mut state, all);
     deep_kinds(&mut state, all);
     let full = Shape::new(6, 1, 6).holes(5).weights(0, 9);
-    let some = full.empty(3);
+    let some = full.empty(3).refused(1);
     damaged_headers(some, &mut state, all);
     damaged_reads(some, &mut state, all);
     damaged_cells(full, &mut state, all);

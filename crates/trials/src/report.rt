@@ -1,9 +1,15 @@
 // What the program prints: a line for each kind of block, and a line for each of the first differences.
 ghost use Prim.Native.Nat.{_<_};
 
-// How many calls gave each number from 0 to 11 and each verdict from 50 to 57; behind these how many were tried and how many differences
-// were found.
-pub type Tally = [usize; 22];
+// How many calls gave each number, a refusal or a verdict, at the place of the number; behind these how many blocks were converted, how
+// many calls were tried and how many differences were found.
+pub type Tally = [usize; 64];
+
+pub const CONVERTED: usize = 61;
+
+const TRIED: usize = 62;
+
+const DIFFERENCES: usize = 63;
 
 fn say(text: &[u8]) {
     io::write_all(1, text);
@@ -14,33 +20,28 @@ fn say_number(x: usize) {
 }
 
 fn raise(tally: &mut Tally, i: usize, by: usize)
-    requires { ⌜ i < 22 ⌝ }
+    requires { ⌜ i < 64 ⌝ }
 {
     tally[i] = std::num::wrapping_add_usize(tally[i], by);
 }
 
 // One more call, which gave this number.
 pub fn count(tally: &mut Tally, number: usize) {
-    if number < 12 {
+    if number < TRIED {
         raise(tally, number, 1);
     }
-    if number >= 50 {
-        if number < 58 {
-            raise(tally, number - 38, 1);
-        }
-    }
-    raise(tally, 20, 1);
+    raise(tally, TRIED, 1);
 }
 
 // One more difference, of the call that was tried last; whether it gets a line: the first eight of a kind do.
 fn found_one(name: &[u8], what: &[u8], tally: &mut Tally) -> bool {
-    raise(tally, 21, 1);
-    if tally[21] > 8 {
+    raise(tally, DIFFERENCES, 1);
+    if tally[DIFFERENCES] > 8 {
         return false;
     }
     say(name);
     say(b" ");
-    say_number(tally[20]);
+    say_number(tally[TRIED]);
     say(b": ");
     say(what);
     true
@@ -83,13 +84,16 @@ fn say_outcome(i: usize) {
         say(b" accepted");
         return;
     }
-    if i < 12 {
-        say(b" refused by ");
-        say_number(i);
+    if i == CONVERTED {
+        say(b" converted");
         return;
     }
-    say(b" judged ");
-    say_number(std::num::wrapping_add_usize(i, 38));
+    if i < 50 {
+        say(b" refused by ");
+    } else {
+        say(b" judged ");
+    }
+    say_number(i);
 }
 
 fn say_count(i: usize, blocks: usize) {
@@ -103,7 +107,7 @@ fn say_count(i: usize, blocks: usize) {
 
 fn say_counts(tally: &Tally) {
     let mut i: usize = 0;
-    while i < 20 {
+    while i < TRIED {
         say_count(i, tally[i]);
         i += 1;
     }
@@ -111,14 +115,14 @@ fn say_counts(tally: &Tally) {
 
 fn say_differences(tally: &Tally) {
     say(b"differences ");
-    say_number(tally[21]);
+    say_number(tally[DIFFERENCES]);
     say(b"\n");
 }
 
 fn say_line(name: &[u8], tally: &Tally) {
     say(name);
     say(b": ");
-    say_number(tally[20]);
+    say_number(tally[TRIED]);
     say(b" tried");
     say_counts(tally);
     say(b", ");
@@ -127,7 +131,7 @@ fn say_line(name: &[u8], tally: &Tally) {
 
 fn add(all: &mut Tally, tally: &Tally) {
     let mut i: usize = 0;
-    while i < 22 {
+    while i < 64 {
         raise(all, i, tally[i]);
         i += 1;
     }
@@ -137,6 +141,12 @@ fn add(all: &mut Tally, tally: &Tally) {
 pub fn line(name: &[u8], tally: &Tally, all: &mut Tally) {
     say_line(name, tally);
     add(all, tally);
+}
+
+// The same for what was converted.
+pub fn convert_line(name: &[u8], tally: &Tally, all: &mut Tally) {
+    say(b"convert ");
+    line(name, tally, all);
 }
 
 // The last lines.

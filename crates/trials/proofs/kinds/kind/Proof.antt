@@ -4,10 +4,10 @@ use Rattle.trials.proofs.kinds.kind.Statement.{statement}
 use Rattle.trials.proofs.kinds.kind.Tie as tie
 
 abbrev Inv-loop : tie.InvT-loop
-Inv-loop name shape field blocks state₀ all tally₀ i₀ state tally i = i ≤ blocks
+Inv-loop name shape field blocks state₀ all tally₀ converted₀ i₀ state tally converted i = i ≤ blocks
 
 abbrev μ-loop : tie.MeasureT-loop
-μ-loop name shape field blocks state₀ all tally₀ i₀ state tally i = blocks - i
+μ-loop name shape field blocks state₀ all tally₀ converted₀ i₀ state tally converted i = blocks - i
 
 loop-holds : tie.Need-loop-holds Inv-loop μ-loop
 loop-holds c = search needs
@@ -27,6 +27,9 @@ loop-again c = search needs
 line-requires : tie.Need-line-requires Inv-loop μ-loop
 line-requires c κs = search needs
 
+convert-line-requires : tie.Need-convert-line-requires Inv-loop μ-loop
+convert-line-requires c κs = search needs
+
 returns : tie.Need-returns Inv-loop μ-loop
 returns c = search needs
 
@@ -42,4 +45,5 @@ kind-spec =
     loop-less
     loop-again
     line-requires
+    convert-line-requires
     returns)

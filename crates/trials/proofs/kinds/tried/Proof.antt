@@ -16,6 +16,12 @@ some-rooms-requires c κs = search needs
 against-search-requires : tie.Need-against-search-requires
 against-search-requires c κs = search needs
 
+some-room-requires : tie.Need-some-room-requires
+some-room-requires c κs = search needs
+
+against-converter-requires : tie.Need-against-converter-requires
+against-converter-requires c κs = search needs
+
 returns : tie.Need-returns
 returns c = search needs
 
@@ -27,4 +33,6 @@ tried-spec =
     slice-aggregate-block
     some-rooms-requires
     against-search-requires
+    some-room-requires
+    against-converter-requires
     returns)

@@ -4,10 +4,10 @@ use Rattle.trials.proofs.report.add.Statement.{statement}
 use Rattle.trials.proofs.report.add.Tie as tie
 
 abbrev Inv-loop : tie.InvT-loop
-Inv-loop all₀ tally i₀ all i = i ≤ 22
+Inv-loop all₀ tally i₀ all i = i ≤ 64
 
 abbrev μ-loop : tie.MeasureT-loop
-μ-loop all₀ tally i₀ all i = 22 - i
+μ-loop all₀ tally i₀ all i = 64 - i
 
 loop-holds : tie.Need-loop-holds Inv-loop μ-loop
 loop-holds c = search needs

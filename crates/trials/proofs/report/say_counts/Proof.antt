@@ -4,10 +4,10 @@ use Rattle.trials.proofs.report.say_counts.Statement.{statement}
 use Rattle.trials.proofs.report.say_counts.Tie as tie
 
 abbrev Inv-loop : tie.InvT-loop
-Inv-loop tally i₀ i = i ≤ 20
+Inv-loop tally i₀ i = i ≤ 62
 
 abbrev μ-loop : tie.MeasureT-loop
-μ-loop tally i₀ i = 20 - i
+μ-loop tally i₀ i = 62 - i
 
 loop-holds : tie.Need-loop-holds Inv-loop μ-loop
 loop-holds c = search needs

@@ -14,6 +14,8 @@ pub enum Field {
     ReadLength,
     /// a read's first column
     First,
+    /// a read loses its cells, and its first column may be any
+    Cells,
     Letter,
     Weight,
     /// bytes are cut off at the end
@@ -30,13 +32,14 @@ fn put(block: &mut [u8], at: usize, number: usize) {
 }
 
 impl Field {
-    pub const ALL: [Field; 11] = [
+    pub const ALL: [Field; 12] = [
         Field::Version,
         Field::Length,
         Field::Columns,
         Field::Reads,
         Field::ReadLength,
         Field::First,
+        Field::Cells,
         Field::Letter,
         Field::Weight,
         Field::Cut,
@@ -60,6 +63,7 @@ impl Field {
                 put(&mut block, 7, random.pick(&[0, n + 1, n + 2, n.saturating_sub(1), 1024, 1025, any]));
             }
             Field::ReadLength | Field::First => self.damage_read(matrix, &mut block, random)?,
+            Field::Cells => lose_cells(matrix, &mut block, random)?,
             Field::Letter | Field::Weight => self.damage_cell(matrix, &mut block, random)?,
             Field::Cut | Field::More => self.stretch(&mut block, random),
             Field::Bit => {
@@ -122,6 +126,17 @@ impl Field {
             set_length(block);
         }
     }
+}
+
+/// Takes the cells of any read away; the length field follows. Its first column is 0, another, or what it was.
+fn lose_cells(matrix: &Matrix, block: &mut Vec<u8>, random: &mut Random) -> Option<()> {
+    let read = random.within(0, matrix.rows.len().checked_sub(1)?);
+    let (at, row) = (place(matrix, read), &matrix.rows[read]);
+    block.drain(at + 4..at + 4 + cell_bytes(matrix.version) * row.cells.len());
+    put(block, at, 2);
+    put(block, at + 2, random.pick(&[0, 7, row.first, matrix.columns]));
+    set_length(block);
+    Some(())
 }
 
 /// Where a read's L stands in the block of a matrix.

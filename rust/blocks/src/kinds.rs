@@ -20,7 +20,7 @@ pub enum Kind {
     Ties,
     /// nearly all weights 0
     Weightless,
-    /// many reads with c = 0
+    /// many reads with c = 0, which version 2 refuses
     Empty,
     /// parts that do not touch, with columns that no read covers
     Apart,
@@ -48,7 +48,12 @@ impl Kind {
     ];
     pub const LARGE: [Kind; 2] = [Kind::Many, Kind::Deep];
 
-    /// A matrix of this kind, in this version. Every one passes checks 1 to 8.
+    /// Whether matrices of this kind pass checks 1 to 8 in this version. The others are refused by 38.
+    pub fn passes(self, version: u8) -> bool {
+        (self, version) != (Kind::Empty, 2)
+    }
+
+    /// A matrix of this kind, in this version.
     pub fn matrix(self, version: u8, random: &mut Random) -> Matrix {
         let weights = random.pick(any_weights(version));
         let style = |gaps| Style { gaps, weights };
@@ -68,7 +73,7 @@ impl Kind {
             Kind::Many => layered(version, random, 1024, 9),
             Kind::Deep => layered(version, random, 200, 13),
         };
-        matrix.in_version(version).expect("weights of this version")
+        Matrix { version, ..matrix }
     }
 }
 
@@ -198,7 +203,8 @@ fn limits(random: &mut Random, columns: usize, most: usize) -> Vec<usize> {
     (0..columns).map(|column| if inside(column) { most } else { elsewhere }).collect()
 }
 
-/// Many reads, but at most so many active at a column; where no place is found for one, it has no cells.
+/// Many reads, but at most so many active at a column; where no place is found for one, it has no cells in version 1 and is left
+/// out in version 2.
 fn layered(version: u8, random: &mut Random, reads: usize, most_active: usize) -> Matrix {
     let widest = random.pick(&[40, 1024, 1024]);
     let (columns, reads) = (random.within(widest / 40, widest), random.within(reads / 8, reads));
@@ -217,5 +223,6 @@ fn layered(version: u8, random: &mut Random, reads: usize, most_active: usize) -
         span.iter_mut().for_each(|left| *left -= 1);
         row
     };
-    Matrix::new(columns, (0..reads).map(|_| row(random)).collect())
+    let rows = (0..reads).map(|_| row(random)).filter(|row| version == 1 || !row.cells.is_empty());
+    Matrix::new(columns, rows.collect())
 }

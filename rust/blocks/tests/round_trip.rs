@@ -1,9 +1,15 @@
-//! Random matrices of every kind in both versions, to block and text and back.
+//! Random matrices of every kind in both versions, to block and text and back; those with empty reads in version 1 alone.
 
 use blocks::{Kind, Random};
-use matrix::{Matrix, VERSIONS, parse};
+use matrix::{Fault, Matrix, VERSIONS, parse};
 
 fn comes_back(kind: Kind, matrix: &Matrix) {
+    if !kind.passes(matrix.version) {
+        let empty = matrix.rows.iter().position(|row| row.cells.is_empty()).expect("an empty read");
+        assert_eq!(Matrix::read(&matrix.block()), Err((38, empty as u32)), "{kind:?}");
+        assert_eq!(matrix.clone().in_version(2), Err(Fault::NoCells { row: empty + 1 }), "{kind:?}");
+        return;
+    }
     let columns = matrix.rows.is_empty().then_some(matrix.columns);
     assert_eq!(Matrix::read(&matrix.block()).as_ref(), Ok(matrix), "{kind:?}");
     let parsed = parse(&matrix.to_string(), columns).and_then(|parsed| parsed.in_version(matrix.version));

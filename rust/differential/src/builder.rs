@@ -11,7 +11,7 @@ pub enum Builder {
     Ours,
     /// all sides and both haplotypes exchanged
     Exchanged,
-    /// a read with c = 0 on side 1
+    /// a read with c = 0 on side 1, in version 1
     EmptyRead,
     /// a 0 or a 1 where ours is `-`
     LetterAtTie,
@@ -53,6 +53,11 @@ impl Builder {
         Builder::AnyLetters,
         Builder::AnySides,
     ];
+
+    /// The builders that have answers to blocks of this version.
+    pub fn of(version: u8) -> impl Iterator<Item = Builder> {
+        Self::ALL.into_iter().filter(move |builder| version == 1 || *builder != Builder::EmptyRead)
+    }
 
     /// This builder's answer; None where a block has none of the kind. There is always one with any sides.
     pub fn answer(self, matrix: &Matrix, random: &mut Random) -> Option<Parts> {

@@ -1,9 +1,11 @@
 //! The proved calls against the independent solver: both numbers, every entry of the work room, every byte of the output,
-//! what lies beyond and around them, the block and the judged answer.
+//! what lies beyond and around them, the block and the judged answer; and the converter.
 
 mod builder;
 mod case;
 mod check;
+mod conversion;
+mod converted;
 mod fault;
 mod judged;
 mod judging;
@@ -14,6 +16,8 @@ mod tally;
 pub use builder::Builder;
 pub use case::{Case, Size};
 pub use check::{Call, check, check_case, proved, searchable};
+pub use conversion::Conversion;
+pub use converted::{Convert, check_conversion, check_convert, proved_convert};
 pub use fault::Fault;
 pub use judged::{Judge, check_judge, check_judging, proved_judge};
 pub use judging::Judging;

@@ -1,6 +1,7 @@
 //! How many cases of each sort were compared, so that none is missing unseen.
 
-use crate::{Case, Judging};
+use crate::{Case, Conversion, Judging};
+use blocks::{Field, Kind};
 use solver::Numbers;
 use std::collections::BTreeMap;
 use std::fmt;
@@ -17,13 +18,18 @@ impl Tally {
         *self.counts.entry((sort, format!("{name:4?}"))).or_default() += 1;
     }
 
-    /// Notes a case and what came of it: the numbers and whether every division was tried, or what differs.
-    pub fn note(&mut self, case: &Case, checked: Result<(Numbers, bool), String>) {
-        self.count("kind", case.kind);
-        self.count("version", case.version);
-        if let Some(field) = case.field {
+    /// Counts what a block is like.
+    fn count_block(&mut self, kind: Kind, version: u8, field: Option<Field>) {
+        self.count("kind", kind);
+        self.count("version", version);
+        if let Some(field) = field {
             self.count("damaged", field);
         }
+    }
+
+    /// Notes a case and what came of it: the numbers and whether every division was tried, or what differs.
+    pub fn note(&mut self, case: &Case, checked: Result<(Numbers, bool), String>) {
+        self.count_block(case.kind, case.version, case.field);
         self.count("work room", case.work.0);
         self.count("output", case.out.0);
         if self.checked(checked) == Some(0) {
@@ -33,24 +39,34 @@ impl Tally {
 
     /// Notes a judged answer and what came of it.
     pub fn note_judging(&mut self, case: &Judging, checked: Result<(Numbers, bool), String>) {
-        self.count("kind", case.kind);
-        self.count("version", case.version);
-        if let Some(field) = case.field {
-            self.count("damaged", field);
-        }
+        self.count_block(case.kind, case.version, case.field);
         self.count("work room", case.work.0);
         self.count("answer", case.builder);
         case.faults.iter().for_each(|fault| self.count("fault", fault));
         self.checked(checked);
     }
 
+    /// Notes a conversion and what came of it.
+    pub fn note_conversion(&mut self, case: &Conversion, checked: Result<Numbers, String>) {
+        self.count_block(case.kind, case.version, case.field);
+        self.count("output", case.out.0);
+        self.agreed(checked);
+    }
+
     /// Notes what came of a case; gives the number, if all agree on it.
     fn checked(&mut self, checked: Result<(Numbers, bool), String>) -> Option<u32> {
+        if let Ok((_, searched)) = checked {
+            self.count("every division tried", searched);
+        }
+        self.agreed(checked.map(|(numbers, _)| numbers))
+    }
+
+    /// Notes the numbers that all agree on, or what differs; gives the number.
+    fn agreed(&mut self, checked: Result<Numbers, String>) -> Option<u32> {
         match checked {
-            Ok(((number, _), searched)) => {
+            Ok((number, _)) => {
                 self.passed += 1;
                 self.count("number", number);
-                self.count("every division tried", searched);
                 Some(number)
             }
             Err(fault) => {

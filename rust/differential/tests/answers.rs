@@ -13,9 +13,10 @@ fn number(block: &[u8], answer: &[u8], work: usize) -> u32 {
     }
 }
 
-/// Blocks whose answers have a `-`, with a read without cells and a pair with a gap: weights of one byte, and of two.
+/// Blocks whose answers have a `-`, with a pair with a gap and a read that weighs nothing, in version 1 since it has no cells:
+/// weights of one byte, and of two.
 const TEXTS: [&str; 2] =
-    ["0:4 . 1:3 / . / 0:5 0:5 0:5 / 1:5 1:5 .", "0:1024 . 1:769 / . / 0:1281 0:1281 0:1281 / 1:1281 1:1281 ."];
+    ["0:4 . 1:3 / . / 0:5 0:5 0:5 / 1:5 1:5 .", "0:1024 . 1:769 / 0:0 / 0:1281 0:1281 0:1281 / 1:1281 1:1281 ."];
 
 /// One of these blocks; our answer, cost 3 or 769, sides 0001, haplotypes 000 and 11-; the entries that it needs.
 fn example(version: u8) -> (Vec<u8>, Vec<u8>, usize) {
@@ -43,7 +44,7 @@ fn each_byte_changed_to_each_value_gets_its_verdict() {
                 5..9 => &[54, 57],
                 9..13 => &[57],
                 17 | 19 => &[52, 53, 57], // the read has an entry where haplotype 2 is `-`
-                18 => &[52, 56, 57],      // the read without cells
+                18 => &[52, 56, 57],      // the read that weighs nothing
                 20 => &[52, 54, 57],      // the read of ones among the zeros
                 21..26 => &[52, 53, 54, 57],
                 _ => &[52, 56, 57], // the `-`

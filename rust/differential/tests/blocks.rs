@@ -18,12 +18,17 @@ fn tally(seed: u64, version: u8, kinds: &[Kind], fields: &[Option<Field>], times
     tally
 }
 
+/// 38, a read without cells, is given in version 2 alone.
+fn empty_reads(version: u8) -> impl Iterator<Item = u32> {
+    (version == 2).then_some(38).into_iter()
+}
+
 #[test]
 fn small_blocks_agree_with_every_division() {
     for version in VERSIONS {
         let tally = tally(1, version, &Kind::SMALL, &[None], 4000);
         tally.require("kind", Kind::SMALL);
-        tally.require("number", [0, 9, 10, 11]);
+        tally.require("number", [0, 9, 10, 11].into_iter().chain(empty_reads(version)));
         tally.require("every division tried", [true]);
         tally.require("work room", Size::ALL);
         tally.require("output", Size::ALL);
@@ -46,7 +51,7 @@ fn blocks_damaged_in_each_field_agree() {
         let tally = tally(3, version, &Kind::SMALL, &Field::ALL.map(Some), 250);
         tally.require("kind", Kind::SMALL);
         tally.require("damaged", Field::ALL);
-        tally.require("number", 0..=11);
+        tally.require("number", (0..=11).chain(empty_reads(version)));
     }
 }
 
@@ -55,6 +60,6 @@ fn large_blocks_damaged_in_each_field_agree() {
     for version in VERSIONS {
         let tally = tally(4, version, &Kind::LARGE, &Field::ALL.map(Some), 30);
         tally.require("damaged", Field::ALL);
-        tally.require("number", 0..=8);
+        tally.require("number", (0..=8).chain(empty_reads(version)));
     }
 }

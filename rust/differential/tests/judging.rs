@@ -19,14 +19,19 @@ fn tally(seed: u64, version: u8, kinds: &[Kind], fields: &[Option<Field>], times
     tally
 }
 
+/// 38, a read without cells, is given in version 2 alone.
+fn empty_reads(version: u8) -> impl Iterator<Item = u32> {
+    (version == 2).then_some(38).into_iter()
+}
+
 #[test]
 fn answers_to_small_blocks_get_their_verdicts() {
     for version in VERSIONS {
         let tally = tally(11, version, &Kind::SMALL, &[None], 120);
         tally.require("kind", Kind::SMALL);
-        tally.require("answer", Builder::ALL);
+        tally.require("answer", Builder::of(version));
         tally.require("fault", Fault::ALL);
-        tally.require("number", [9, 10].into_iter().chain(50..=57));
+        tally.require("number", [9, 10].into_iter().chain(empty_reads(version)).chain(50..=57));
         tally.require("every division tried", [true]);
         tally.require("work room", Size::ALL);
     }
@@ -37,7 +42,7 @@ fn answers_to_large_blocks_get_their_verdicts() {
     for version in VERSIONS {
         let tally = tally(12, version, &Kind::LARGE, &[None], 30);
         tally.require("kind", Kind::LARGE);
-        tally.require("answer", Builder::ALL);
+        tally.require("answer", Builder::of(version));
         tally.require("fault", Fault::ALL);
         tally.require("number", [9, 10].into_iter().chain(50..=57));
     }
@@ -48,8 +53,8 @@ fn a_damaged_block_is_refused_before_its_answer_is_looked_at() {
     for version in VERSIONS {
         let tally = tally(13, version, &Kind::SMALL, &Field::ALL.map(Some), 10);
         tally.require("damaged", Field::ALL);
-        tally.require("answer", Builder::ALL);
+        tally.require("answer", Builder::of(version));
         tally.require("fault", Fault::ALL);
-        tally.require("number", (1..=10).chain(50..=57));
+        tally.require("number", (1..=10).chain(empty_reads(version)).chain(50..=57));
     }
 }

@@ -41,9 +41,19 @@ fn columns_1024_and_1025() {
 
 #[test]
 fn reads_1024_and_1025() {
+    for version in VERSIONS {
+        let row = |read: usize| Row { first: read % 1024, cells: vec![Some((1, heaviest(version)))] };
+        let reads = |n| Matrix { version, columns: 1024, rows: (0..n).map(row).collect() };
+        assert_eq!(ample(&reads(1024).block()), (0, 0));
+        assert_eq!(ample(&reads(1025).block()), (4, 0));
+    }
+}
+
+#[test]
+fn reads_without_cells_1024_and_1025() {
     for (version, columns) in VERSIONS.into_iter().flat_map(|version| [1, 3, 1024].map(|m| (version, m))) {
         let reads = |n| Matrix { version, columns, rows: vec![Row::default(); n] };
-        assert_eq!(ample(&reads(1024).block()), (0, 0));
+        assert_eq!(ample(&reads(1024).block()), if version == 1 { (0, 0) } else { (38, 0) });
         assert_eq!(ample(&reads(1025).block()), (4, 0));
     }
 }
@@ -98,8 +108,9 @@ fn a_cell_in_the_last_column_and_one_past_it() {
         assert_eq!(ample(&block(1, 2)), (0, 0));
         assert_eq!(ample(&block(2, 2)), (6, 0));
         assert_eq!(ample(&block(65535, 1)), (6, 0));
-        assert_eq!(ample(&block(0, 0)), (0, 0));
-        assert_eq!(ample(&block(1, 0)), (6, 0));
+        let [at_0, at_1] = if version == 1 { [(0, 0), (6, 0)] } else { [(38, 0); 2] };
+        assert_eq!(ample(&block(0, 0)), at_0);
+        assert_eq!([1, 3, 7, 65535].map(|first| ample(&block(first, 0))), [at_1; 4]);
     }
 }
 
@@ -130,6 +141,7 @@ fn every_length_field_is_lawful_exactly_where_it_is_a_number_of_cells() {
             let expected = match length {
                 0..2 => (5, 0),
                 _ if (length - 2) % cell != 0 || length > 2 + cell * 1024 => (5, 0),
+                2 if version == 2 => (38, 0), // the read has no cells
                 _ if length < 2 + cell * 1024 => (8, 0), // the read is shorter, and bytes remain
                 _ => (0, 0),
             };

@@ -1,7 +1,7 @@
 //! The outside vectors of tests/vectors, from solvers that share nothing with the project's, through the proved calls and the
 //! independent solver: both numbers, every entry of the work room, every byte of the output.
 
-use differential::{Call, Judge, proved, proved_judge, searchable};
+use differential::{Call, Convert, Judge, proved, proved_convert, proved_judge, searchable};
 use std::collections::{BTreeMap, BTreeSet};
 use std::path::Path;
 
@@ -63,6 +63,12 @@ impl Line {
         assert_eq!(out, bytes(&self.found["out"]), "{name}: {}", self.lent["block"]);
     }
 
+    fn convert(&self, name: &str, convert: Convert) {
+        let (block, mut out) = (bytes(&self.lent["block"]), vec![LENT; number(&self.lent["out"]) as usize]);
+        assert_eq!(convert(&block, &mut out), self.numbers(), "{name}: {}", self.lent["block"]);
+        assert_eq!(out, bytes(&self.found["out"]), "{name}: {}", self.lent["block"]);
+    }
+
     fn judge(&self, name: &str, judge: Judge) {
         let (block, answer, mut work) = (bytes(&self.lent["block"]), bytes(&self.lent["answer"]), self.work());
         let numbers = judge(&block, &answer, &mut work);
@@ -102,8 +108,7 @@ fn by_plain_search(block: &[u8], answer: &[u8], work: &mut [u32]) -> (u32, u32) 
 
 #[test]
 fn answers_to_blocks_of_both_versions_are_judged_as_outside() {
-    // 38 is a refusal of reads without cells that this library does not have
-    let lines: Vec<Line> = lines("judge.txt").into_iter().filter(|line| line.numbers().0 != 38).collect();
+    let lines = lines("judge.txt");
     for line in &lines {
         line.judge("proved", proved_judge);
         line.judge("columns", by_columns);
@@ -111,7 +116,19 @@ fn answers_to_blocks_of_both_versions_are_judged_as_outside() {
             line.judge("plain search", by_plain_search);
         }
     }
-    assert_eq!(lines.len(), 296);
+    assert_eq!(lines.len(), 300);
     assert!(met(&lines, 1).is_superset(&[1, 3, 5, 6, 7, 9, 10, 50, 51, 52, 53, 54, 55, 56, 57].into()));
-    assert!(met(&lines, 2).is_superset(&[1, 3, 4, 5, 7, 8, 9, 10, 50, 51, 52, 53, 54, 55, 56, 57].into()));
+    assert!(met(&lines, 2).is_superset(&[1, 3, 4, 5, 7, 8, 9, 10, 38, 50, 51, 52, 53, 54, 55, 56, 57].into()));
+}
+
+#[test]
+fn blocks_are_converted_as_outside() {
+    let lines = lines("convert.txt");
+    for line in &lines {
+        line.convert("proved", proved_convert);
+        line.convert("solver", solver::convert);
+    }
+    assert_eq!(lines.len(), 150);
+    assert!(met(&lines, 1).is_superset(&[0, 1, 3, 4, 5, 6, 7, 8, 39].into()));
+    assert!(met(&lines, 2).is_superset(&[2].into()));
 }

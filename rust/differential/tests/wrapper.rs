@@ -15,7 +15,7 @@ fn solved(block: &[u8]) -> Result<(Vec<u32>, Vec<u8>), (u32, u32)> {
 #[test]
 fn the_wrapper_gives_the_solvers_answers_and_refusals() {
     let mut random = Random::new(7);
-    let (mut answers, mut refusals) = (0, [0; 10]);
+    let (mut answers, mut refusals) = (0, [0; 39]);
     for i in 0..6000 {
         let kind = if i % 100 == 0 { random.pick(&Kind::LARGE) } else { random.pick(&Kind::SMALL) };
         let field = random.one_in(2).then(|| random.pick(&Field::ALL));
@@ -33,8 +33,8 @@ fn the_wrapper_gives_the_solvers_answers_and_refusals() {
             (given, solved) => panic!("{given:?}, not {solved:?} of {block:?}"),
         }
     }
-    println!("{answers} answers, refusals 1 to 9: {:?}", &refusals[1..]);
-    assert!(answers > 1000 && refusals[1..].iter().all(|&count| count > 0));
+    println!("{answers} answers, refusals 1 to 9: {:?}, 38: {}", &refusals[1..10], refusals[38]);
+    assert!(answers > 1000 && refusals[1..10].iter().chain(&refusals[38..]).all(|&count| count > 0));
 }
 
 #[test]
@@ -55,6 +55,32 @@ fn the_wrapper_gives_the_solvers_verdicts_and_refusals() {
         assert_eq!(given, wanted, "{answer:?} to {block:?}");
         counts[given.0 as usize] += 1;
     }
-    println!("refusals 1 to 9: {:?}, verdicts 50 to 57: {:?}", &counts[1..10], &counts[50..]);
-    assert!(counts[1..10].iter().chain(&counts[50..]).all(|&count| count > 0));
+    println!("refusals 1 to 9: {:?}, 38: {}, verdicts 50 to 57: {:?}", &counts[1..10], counts[38], &counts[50..]);
+    assert!(counts[1..10].iter().chain(&counts[38..39]).chain(&counts[50..]).all(|&count| count > 0));
+}
+
+#[test]
+fn the_wrapper_gives_the_solvers_converted_blocks_and_refusals() {
+    let mut random = Random::new(22);
+    let (mut converted, mut refusals) = (0, [0; 9]);
+    for i in 0..4000 {
+        let kind = if i % 100 == 0 { random.pick(&Kind::LARGE) } else { random.pick(&Kind::SMALL) };
+        let field = random.one_in(2).then(|| random.pick(&Field::ALL));
+        let block = Case::random(kind, random.pick(&[1, 1, 1, 2]), field, &mut random).block;
+        match (velejume::convert(&block), solver::convert(&block, &mut [])) {
+            (Ok(wide), (39, need)) => {
+                let mut wanted = vec![0; need as usize];
+                assert_eq!(solver::convert(&block, &mut wanted), (0, 0), "the room suffices");
+                assert_eq!(wide, wanted, "{block:?}");
+                converted += 1;
+            }
+            (Err(refusal), numbers) => {
+                assert_eq!((refusal.number(), refusal.second()), numbers, "{block:?}");
+                refusals[numbers.0 as usize] += 1;
+            }
+            (given, solved) => panic!("{given:?}, not {solved:?} of {block:?}"),
+        }
+    }
+    println!("{converted} converted, refusals 1 to 8: {:?}", &refusals[1..]);
+    assert!(converted > 1000 && refusals[1..].iter().all(|&count| count > 0));
 }

@@ -30,7 +30,7 @@ impl Matrix {
         block
     }
 
-    /// The matrix of a fragment block, or the refusal, 1 to 8, and its second number.
+    /// The matrix of a fragment block, or the refusal, 1 to 8 or 38, and its second number.
     pub fn read(block: &[u8]) -> Result<Self, Numbers> {
         let block = Block::read(block)?;
         let cell = |(letter, weight): (u8, u32)| -> Cell { (letter < 2).then_some((letter, weight as u16)) };

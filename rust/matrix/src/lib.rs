@@ -2,8 +2,8 @@
 //!
 //! Rows are separated by `/` or by a newline, entries by blanks. `0:5` is letter 0 of weight 5, `.` a hole or no cell. Dots before
 //! the first and after the last entry of a row are no cells; a row of dots alone is a read with c = 0. The longest row says
-//! how many columns there are, unless they are given. A matrix with a weight above 255 is a block of version 2; any other
-//! is one of version 1, unless version 2 is asked for.
+//! how many columns there are, unless they are given. A matrix with a weight above 255 is a block of version 2, which has no
+//! reads with c = 0; any other is one of version 1, unless version 2 is asked for.
 //!
 //! ```
 //! let matrix = matrix::parse("0:5 . / 1:3 0:2 / 1:6 1:1 / . 0:2", None).unwrap();

@@ -8,6 +8,7 @@ use std::fmt;
 pub enum Fault {
     Entry { row: usize, entry: usize, word: String },
     Weight { row: usize, entry: usize, weight: u16 },
+    NoCells { row: usize },
     EmptyRow { row: usize },
     LongRow { row: usize, entries: usize, columns: usize },
     NoColumns,
@@ -24,6 +25,9 @@ impl fmt::Display for Fault {
             ),
             Fault::Weight { row, entry, weight } => {
                 write!(f, "row {row}, entry {entry}: weight {weight} is above 255, which takes version 2")
+            }
+            Fault::NoCells { row } => {
+                write!(f, "row {row} has no entry: version 2, which weights above 255 take, has no reads without cells")
             }
             Fault::EmptyRow { row } => write!(f, "row {row} is empty: a read without cells is written '.'"),
             Fault::LongRow { row, entries, columns } => {
@@ -105,7 +109,9 @@ pub fn parse(text: &str, columns: Option<usize>) -> Result<Matrix, Fault> {
     if let Some(i) = lines.iter().position(|line| line.len() > columns) {
         return Err(Fault::LongRow { row: i + 1, entries: lines[i].len(), columns });
     }
-    Ok(Matrix::new(columns, lines.iter().map(|line| row(line)).collect()))
+    let matrix = Matrix::new(columns, lines.iter().map(|line| row(line)).collect());
+    let version = matrix.version;
+    matrix.in_version(version)
 }
 
 impl fmt::Display for Matrix {

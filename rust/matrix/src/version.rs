@@ -1,4 +1,4 @@
-//! The versions of the fragment block: weights of one byte, and of two.
+//! The versions of the fragment block: weights of one byte, and of two; in version 2 each read has cells.
 
 use crate::{Fault, Matrix, Row};
 
@@ -19,18 +19,18 @@ fn heavy(rows: &[Row]) -> Option<(usize, usize, u16)> {
 }
 
 impl Matrix {
-    /// A matrix, in version 2 if some weight is above 255 and in version 1 if none is.
+    /// A matrix, in version 2 if some weight is above 255 and in version 1 if none is. Whether it fits is not looked at.
     pub fn new(columns: usize, rows: Vec<Row>) -> Self {
         let version = if heavy(&rows).is_some() { 2 } else { 1 };
         Matrix { version, columns, rows }
     }
 
-    /// The same matrix in this version, unless a weight does not fit.
+    /// The same matrix in this version, unless a weight or a read without cells does not fit.
     pub fn in_version(self, version: u8) -> Result<Self, Fault> {
-        match heavy(&self.rows) {
-            Some((read, column, weight)) if version == 1 => {
-                Err(Fault::Weight { row: read + 1, entry: column + 1, weight })
-            }
+        let without_cells = self.rows.iter().position(|row| row.cells.is_empty());
+        match (version, heavy(&self.rows), without_cells) {
+            (1, Some((read, column, weight)), _) => Err(Fault::Weight { row: read + 1, entry: column + 1, weight }),
+            (2, _, Some(read)) => Err(Fault::NoCells { row: read + 1 }),
             _ => Ok(Matrix { version, ..self }),
         }
     }

@@ -1,4 +1,4 @@
-//! The fragment block, and refusals 1 to 8.
+//! The fragment block, and refusals 1 to 8, 38 among them.
 
 use crate::Numbers;
 use std::ops::Range;
@@ -17,7 +17,7 @@ pub struct Read {
     at: u32,
 }
 
-/// A fragment block that passes checks 1 to 8.
+/// A fragment block that passes checks 1 to 8. In version 2 each of its reads has cells.
 pub struct Block<'a> {
     bytes: &'a [u8],
     /// the bytes of a cell, [`NARROW`] or [`WIDE`]
@@ -76,6 +76,9 @@ fn read_at<const CELL: usize>(bytes: &[u8], at: usize, columns: usize) -> Result
         return Err(5);
     }
     let (first, cells) = (word(bytes, at + 2), (length - 2) / CELL);
+    if CELL == WIDE && cells == 0 {
+        return Err(38);
+    }
     if cells == 0 && first != 0 || first + cells > columns {
         return Err(6);
     }
@@ -85,7 +88,7 @@ fn read_at<const CELL: usize>(bytes: &[u8], at: usize, columns: usize) -> Result
     Ok(Read { first: first as u16, end: (first + cells) as u16, at: (at + 4) as u32 })
 }
 
-/// So many reads; refusals 5 to 8.
+/// So many reads; refusals 5, 38, 6 and 7 read by read, then 8.
 fn reads<const CELL: usize>(bytes: &[u8], columns: usize, count: usize) -> Result<Vec<Read>, Numbers> {
     let mut reads = Vec::with_capacity(count);
     let mut at = 9;
@@ -98,7 +101,7 @@ fn reads<const CELL: usize>(bytes: &[u8], columns: usize, count: usize) -> Resul
 }
 
 impl<'a> Block<'a> {
-    /// Checks 1 to 8, in this order.
+    /// Checks 1 to 8, in this order; 38 between 5 and 6.
     pub fn read(bytes: &'a [u8]) -> Result<Self, Numbers> {
         let (cell, columns, count) = header(bytes)?;
         let reads = match cell {

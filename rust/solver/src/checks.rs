@@ -1,4 +1,4 @@
-//! Refusals 1 to 11, in order.
+//! Refusals 1 to 11, in order; 38 is between 5 and 6.
 
 use crate::{Block, Numbers, answer};
 
@@ -56,7 +56,7 @@ impl<'a> Placed<'a> {
     }
 }
 
-/// The rooms that a block needs, m × T entries and 17 + n + 2m bytes, or refusal 1 to 9.
+/// The rooms that a block needs, m × T entries and 17 + n + 2m bytes, or refusal 1 to 9 or 38.
 pub fn rooms(bytes: &[u8]) -> Result<(usize, usize), Numbers> {
     Ok(Placed::read(bytes)?.rooms())
 }

@@ -5,12 +5,15 @@
 //! document 01 says, entry by entry and byte by byte. [`judge`] judges a builder's answer by either, as
 //! document 02 says.
 //!
+//! [`convert`] turns a block of version 1 into one of version 2 without its empty reads.
+//!
 //! [`forgetful`] is no solver to rely on: it has a fault on purpose, for suites that have to find it.
 
 mod answer;
 mod block;
 mod checks;
 mod columns;
+mod convert;
 mod exhaustive;
 mod judge;
 mod stated;
@@ -18,6 +21,7 @@ mod stated;
 pub use block::{Block, Read};
 pub use checks::rooms;
 pub use columns::{columns, forgetful, walk};
+pub use convert::convert;
 pub use exhaustive::exhaustive;
 pub use judge::{Phase, judge};
 pub use stated::Stated;

@@ -22,9 +22,17 @@ unsafe extern "C" {
         work_len: usize,
         second: *mut u32,
     ) -> u32;
+
+    fn velejume_convert(
+        block: *const u8,
+        block_len: usize,
+        out: *mut u8,
+        out_len: usize,
+        second: *mut u32,
+    ) -> u32;
 }
 
-/// What a call returns: 0 on acceptance, a verdict's number, or that of a refusal; and the second number.
+/// What a call returns: 0 on acceptance or success, a verdict's number, or that of a refusal; and the second number.
 #[derive(Clone, Copy, Debug, PartialEq, Eq)]
 pub struct Numbers {
     pub number: u32,
@@ -43,6 +51,15 @@ impl Numbers {
     /// Of [`judge_in`]: the verdict, or the refusal of the block.
     pub fn verdict(self) -> Result<Verdict, Refusal> {
         Verdict::read(self)
+    }
+
+    /// Of [`convert_in`]: nothing on success, else the refusal.
+    pub fn converted(self) -> Result<(), Refusal> {
+        match self.number {
+            0 => Ok(()),
+            2 => Err(Refusal::NotVersion1),
+            _ => Err(Refusal::read(self)),
+        }
     }
 }
 
@@ -112,5 +129,29 @@ pub fn judge_in(block: &[u8], answer: &[u8], work: &mut [u32]) -> Numbers {
             &mut second,
         )
     };
+    Numbers { number, second }
+}
+
+/// Converts a fragment block of version 1 into one of version 2 without its reads without cells, in an output that the
+/// caller lends, of any size.
+///
+/// On success `out` starts with the block of version 2; what lies beyond is kept. A refusal writes nothing.
+///
+/// ```
+/// use velejume::{Refusal, convert_in};
+///
+/// let block = [1, 0, 0, 0, 14, 0, 1, 0, 2, 0, 2, 0, 0, 0, 4, 0, 0, 0, 7]; // . / 0:7
+/// let mut out = [9; 17];
+/// assert_eq!(convert_in(&block, &mut out).converted(), Ok(()));
+/// assert_eq!(out, [2, 0, 0, 0, 11, 0, 1, 0, 1, 0, 5, 0, 0, 0, 0, 7, 9]);
+///
+/// let refusal = convert_in(&block, &mut out[..15]).converted();
+/// assert_eq!(refusal, Err(Refusal::ConvertRoom { need: 16 }));
+/// ```
+pub fn convert_in(block: &[u8], out: &mut [u8]) -> Numbers {
+    let mut second = 0;
+    // SAFETY: each pointer stands with the length of its slice, and the slices do not overlap. The call is proved to stay
+    // within them for every block and every length.
+    let number = unsafe { velejume_convert(block.as_ptr(), block.len(), out.as_mut_ptr(), out.len(), &mut second) };
     Numbers { number, second }
 }

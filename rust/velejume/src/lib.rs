@@ -2,7 +2,8 @@
 //!
 //! [`phase`] takes a fragment block and gives the least cost, a side for each read, both haplotypes and the table, or says
 //! why the block is refused. [`judge`] takes a builder's answer beside it and gives the first verdict that applies.
-//! [`phase_in`] and [`judge_in`] are the proved calls themselves, for callers that lend their own rooms.
+//! [`convert`] turns a block of version 1 into one of version 2 without its reads without cells.
+//! [`phase_in`], [`judge_in`] and [`convert_in`] are the proved calls themselves, for callers that lend their own rooms.
 //!
 //! ```
 //! // the matrix of the WhatsHap paper's Figure 1: 0:5 . / 1:3 0:2 / 1:6 1:1 / . 0:2
@@ -33,7 +34,7 @@ mod refusal;
 mod verdict;
 
 pub use answer::{Answer, Letter, Table};
-pub use call::{Numbers, judge_in, phase_in};
+pub use call::{Numbers, convert_in, judge_in, phase_in};
 pub use refusal::Refusal;
 pub use verdict::Verdict;
 
@@ -92,4 +93,26 @@ pub fn judge(block: &[u8], answer: &[u8]) -> Result<Verdict, Refusal> {
         other => return other,
     };
     judge_in(block, answer, &mut work).verdict()
+}
+
+/// Converts a fragment block of version 1 into one of version 2 without its reads without cells; the others keep their order,
+/// letters and weights, and so their sides, the haplotypes, the cost and the table. The room is as large as the call itself
+/// says that it needs.
+///
+/// ```
+/// let block = [1, 0, 0, 0, 14, 0, 1, 0, 2, 0, 2, 0, 0, 0, 4, 0, 0, 0, 7]; // . / 0:7
+/// let wide = velejume::convert(&block).unwrap();
+/// assert_eq!(wide, [2, 0, 0, 0, 11, 0, 1, 0, 1, 0, 5, 0, 0, 0, 0, 7]);
+///
+/// let refusal = velejume::convert(&wide).unwrap_err();
+/// assert_eq!((refusal.number(), refusal.second()), (2, 0));
+/// assert_eq!(refusal.to_string(), "version not 1");
+/// ```
+pub fn convert(block: &[u8]) -> Result<Vec<u8>, Refusal> {
+    let mut out = match convert_in(block, &mut []).converted() {
+        Err(Refusal::ConvertRoom { need }) => vec![0; need as usize],
+        other => return Err(other.expect_err("no block fits into no room")),
+    };
+    convert_in(block, &mut out).converted()?;
+    Ok(out)
 }

@@ -1,7 +1,8 @@
-//! soak SEED COUNT: so many random blocks of every kind and version, a third of them damaged, and as many judged answers.
+//! soak SEED COUNT: so many random blocks of every kind and version, a third of them damaged, as many judged
+//! answers and as many conversions.
 
 use blocks::{Field, Kind, Random};
-use differential::{Builder, Case, Judging, Tally, check_case, check_judging};
+use differential::{Builder, Case, Conversion, Judging, Tally, check_case, check_conversion, check_judging};
 use matrix::VERSIONS;
 use std::process::ExitCode;
 
@@ -13,7 +14,7 @@ fn main() -> ExitCode {
         return ExitCode::from(2);
     };
     let mut random = Random::new(seed);
-    let (mut tally, mut judged) = (Tally::default(), Tally::default());
+    let [mut tally, mut judged, mut converted] = [(); 3].map(|_| Tally::default());
     for i in 0..count {
         let kinds: &[Kind] = if i % 50 == 0 { &Kind::LARGE } else { &Kind::SMALL };
         let (kind, version) = (random.pick(kinds), random.pick(&VERSIONS));
@@ -22,7 +23,10 @@ fn main() -> ExitCode {
         tally.note(&case, check_case(&case, &mut random));
         let case = Judging::random(kind, version, field, random.pick(&Builder::ALL), &mut random);
         judged.note_judging(&case, check_judging(&case, &mut random));
+        let case = Conversion::random(kind, version, field, &mut random);
+        converted.note_conversion(&case, check_conversion(&case, &mut random));
     }
-    println!("{tally}\n{judged}");
-    if tally.good() && judged.good() { ExitCode::SUCCESS } else { ExitCode::FAILURE }
+    println!("{tally}\n{judged}\n{converted}");
+    let good = [tally, judged, converted].iter().all(Tally::good);
+    if good { ExitCode::SUCCESS } else { ExitCode::FAILURE }
 }

@@ -16,9 +16,9 @@ pub fn tiled(version: u8, columns: usize, layers: usize, length: usize, gaps: Ga
     Matrix { version, columns, rows: rows.collect() }
 }
 
-/// Reads without cells.
-pub fn empty(version: u8, columns: usize, reads: usize) -> Matrix {
-    Matrix { version, columns, rows: vec![Row::default(); reads] }
+/// Reads without cells, which version 1 alone has.
+pub fn empty(columns: usize, reads: usize) -> Matrix {
+    Matrix { version: 1, columns, rows: vec![Row::default(); reads] }
 }
 
 /// The matrix of the WhatsHap paper's Figure 1.

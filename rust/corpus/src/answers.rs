@@ -1,42 +1,8 @@
 //! Writing our answers to all blocks of a folder.
 
-use crate::{Item, Outcome, Progress, cores, read_answer, read_block};
-use std::io::{ErrorKind, Write};
+use crate::{Item, Made, Outcome, Progress, cores, put, read_block};
 use std::path::Path;
-use std::{fmt, fs};
 use velejume::{OUTPUT_BYTES, Refusal, phase_in};
-
-/// What came of a block.
-#[derive(Debug, PartialEq, Eq)]
-pub enum Made {
-    Written,
-    /// the same answer was there already
-    There,
-    /// another answer is there; it is kept
-    Other,
-    /// the block is refused or cannot be read
-    Not(Outcome),
-    Unwritable(String),
-}
-
-impl Made {
-    /// Whether the answer that was to be written is there now.
-    pub fn fine(&self) -> bool {
-        matches!(self, Made::Written | Made::There)
-    }
-}
-
-impl fmt::Display for Made {
-    fn fmt(&self, f: &mut fmt::Formatter) -> fmt::Result {
-        match self {
-            Made::Written => write!(f, "written"),
-            Made::There => write!(f, "there already"),
-            Made::Other => write!(f, "another answer is there and is kept"),
-            Made::Not(outcome) => write!(f, "{outcome}"),
-            Made::Unwritable(why) => write!(f, "the answer cannot be written: {why}"),
-        }
-    }
-}
 
 /// Our answer to a block.
 fn answer(block: &[u8], work: &mut [u32]) -> Result<Vec<u8>, Refusal> {
@@ -48,23 +14,13 @@ fn answer(block: &[u8], work: &mut [u32]) -> Result<Vec<u8>, Refusal> {
 }
 
 /// Writes an answer beside its block, `NAME.answer`. One that is there is kept.
-pub fn put(block: &Path, answer: &[u8]) -> Made {
-    let path = block.with_extension("answer");
-    let file = match fs::File::create_new(&path) {
-        Err(fault) if fault.kind() == ErrorKind::AlreadyExists => {
-            return if read_answer(&path).is_ok_and(|there| there == answer) { Made::There } else { Made::Other };
-        }
-        file => file,
-    };
-    match file.and_then(|mut file| file.write_all(answer).inspect_err(|_| drop(fs::remove_file(&path)))) {
-        Ok(()) => Made::Written,
-        Err(fault) => Made::Unwritable(fault.to_string()),
-    }
+pub fn put_answer(block: &Path, answer: &[u8]) -> Made {
+    put(&block.with_extension("answer"), answer, "answer")
 }
 
 fn made(path: &Path, work: &mut [u32]) -> Made {
     match read_block(path).map(|block| answer(&block, work)) {
-        Ok(Ok(answer)) => put(path, &answer),
+        Ok(Ok(answer)) => put_answer(path, &answer),
         Ok(Err(refusal)) => Made::Not(Outcome::Refused(refusal)),
         Err(why) => Made::Not(Outcome::unreadable("block", why)),
     }

@@ -9,6 +9,7 @@ pub enum Kind {
     Holes,
     Ties,
     Weightless,
+    /// in version 1 alone
     Empty,
     Apart,
 }
@@ -28,6 +29,11 @@ impl Kind {
             Kind::Empty => "empty",
             Kind::Apart => "apart",
         }
+    }
+
+    /// The kinds of blocks of a version: those with empty reads are of version 1 alone.
+    pub fn of(version: u8) -> Vec<Kind> {
+        Self::ALL.into_iter().filter(|kind| version == 1 || *kind != Kind::Empty).collect()
     }
 
     /// The kind of this name.

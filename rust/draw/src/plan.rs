@@ -19,7 +19,7 @@ pub struct Plan {
     pub count: usize,
     /// of every block: in version 2 weights have two bytes
     pub version: u8,
-    /// in turn
+    /// in turn, each of them one that the version has
     pub kinds: Vec<Kind>,
     /// m of every block; each has its own where none is given
     pub columns: Option<usize>,

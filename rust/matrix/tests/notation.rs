@@ -46,14 +46,13 @@ fn p1_to_p9_come_back_from_block_and_text() {
 }
 
 /// Matrices in version 2: the text, the block in hexadecimal.
-const WIDE: [(&str, &str); 4] = [
+const WIDE: [(&str, &str); 3] = [
     (
         "0:5 . / 1:3 0:2 / 1:6 1:1 / . 0:2",
         "02000000260002000400050000000005000800000100030000020008000001000601000100050001000002",
     ),
     ("0:256 . 1:65535", "020000001100030001000b000000010002000001ffff"),
     ("0:0 1:255 0:257", "020000001100030001000b00000000000100ff000101"),
-    (". / 0:7", "020000000f000100020002000000050000000007"),
 ];
 
 #[test]
@@ -76,6 +75,18 @@ fn the_version_is_the_least_that_holds_the_weights() {
     assert_eq!(fault.to_string(), "row 2, entry 3: weight 256 is above 255, which takes version 2");
     let narrow = parse("0:255", None).unwrap();
     assert_eq!(narrow.clone().in_version(2).unwrap().in_version(1), Ok(narrow));
+}
+
+#[test]
+fn version_2_has_no_reads_without_cells() {
+    let words = "row 2 has no entry: version 2, which weights above 255 take, has no reads without cells";
+    assert_eq!(parse("0:256 / . / .", None).unwrap_err().to_string(), words);
+    let narrow = parse("0:255 / . / .", None).unwrap();
+    assert_eq!(narrow.clone().in_version(2).unwrap_err().to_string(), words);
+    assert_eq!(narrow.clone().in_version(1), Ok(narrow.clone()));
+    let block = Matrix { version: 2, ..narrow }.block();
+    assert_eq!(block, bytes("020000001300010003000500000000ff0002000000020000"));
+    assert_eq!(Matrix::read(&block), Err((38, 1)));
 }
 
 #[test]

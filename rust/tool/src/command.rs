@@ -1,7 +1,7 @@
 //! The subcommands, and how they end.
 
 use crate::words::{Known, Words};
-use crate::{answers, draw, judge, matrix, phase};
+use crate::{answers, convert, draw, judge, matrix, phase};
 
 /// How the work ended, which is the exit status.
 #[derive(Clone, Copy, Debug, PartialEq, Eq, PartialOrd, Ord)]
@@ -34,4 +34,5 @@ pub struct Command {
     pub run: fn(&Words) -> Result<Status, Fault>,
 }
 
-pub const COMMANDS: [Command; 5] = [phase::COMMAND, judge::COMMAND, answers::COMMAND, draw::COMMAND, matrix::COMMAND];
+pub const COMMANDS: [Command; 6] =
+    [phase::COMMAND, judge::COMMAND, answers::COMMAND, convert::COMMAND, draw::COMMAND, matrix::COMMAND];

@@ -32,11 +32,14 @@ machine, and a smaller N the first of them.
                      ties        equal weights, reads repeated or with every
                                  letter exchanged
                      weightless  nearly all weights 0
-                     empty       reads without cells between the others
+                     empty       reads without cells between the others, in
+                                 version 1 alone
                      apart       parts that do not touch, with a column between
                                  that no read covers
   --version V      version of the blocks, 1 or 2; without it 1. In version 2
-                   they have the same reads, with weights up to 65535
+                   blocks of one kind have the same reads, with weights up to
+                   65535; the kind 'empty' is not drawn: version 2 has no reads
+                   without cells
   --answers WHOSE  also write answers: 'ours', or 'forgetful' for those of a
                    solver that forgets a read in its gap
 
@@ -68,17 +71,27 @@ fn whose(text: &str) -> Option<Answers> {
     }
 }
 
+/// The kinds that the words ask for, all that the version has if they ask for none.
+fn kinds_of(words: &Words, version: u8) -> Result<Vec<Kind>, String> {
+    let names = Kind::ALL.map(Kind::name).join(", ");
+    let (asked, all) = (words.read_as("--kind", &format!("one or more of {names}"), kinds)?, Kind::of(version));
+    match asked.iter().flatten().find(|kind| !all.contains(kind)) {
+        Some(kind) => Err(format!("--kind {} goes with version 1", kind.name())),
+        None => Ok(asked.unwrap_or(all)),
+    }
+}
+
 /// What the words ask for, or what is wrong with them.
 fn plan(words: &Words) -> Result<Plan, String> {
-    let names = Kind::ALL.map(Kind::name).join(", ");
+    let version = words.block_version()?.unwrap_or(1);
     let digits = |text: &str| text.bytes().all(|byte| byte.is_ascii_digit()).then(|| text.parse().ok()).flatten();
     Ok(Plan {
         seed: words.read_as("--seed", "a number below 2 to the power 64", digits)?.ok_or("--seed has to be given")?,
         count: words.number("--count", COUNT)?.ok_or("--count has to be given")?,
         columns: words.number("--columns", COLUMNS)?,
         depth: words.number("--depth", DEPTH)?,
-        kinds: words.read_as("--kind", &format!("one or more of {names}"), kinds)?.unwrap_or(Kind::ALL.to_vec()),
-        version: words.block_version()?.unwrap_or(1),
+        kinds: kinds_of(words, version)?,
+        version,
     })
 }
 
@@ -89,7 +102,7 @@ fn origin(plan: &Plan) -> String {
     for (name, number) in numbers {
         text += &number.map(|number| format!(" --{name} {number}")).unwrap_or_default();
     }
-    if plan.kinds != Kind::ALL {
+    if plan.kinds != Kind::of(plan.version) {
         text += &format!(" --kind {}", plan.kinds.iter().map(|kind| kind.name()).collect::<Vec<_>>().join(","));
     }
     if plan.version != 1 {

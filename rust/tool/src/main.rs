@@ -1,10 +1,12 @@
-//! velejume: one tool over the proved library. It phases blocks, judges answers, writes ours, draws corpora, and turns the
-//! matrix notation into blocks and back.
+//! velejume: one tool over the proved library. It phases blocks, judges answers, writes ours, converts blocks of version 1, draws
+//! corpora, and turns the matrix notation into blocks and back.
 
 mod answers;
 mod command;
+mod convert;
 mod draw;
 mod folder;
+mod input;
 mod judge;
 mod matrix;
 mod output;
@@ -24,6 +26,8 @@ usage: velejume phase [--answer] BLOCK..
        velejume judge BLOCK ANSWER
        velejume judge FOLDER [--report PAGE.html] [--tsv FILE] [--part I/N]
        velejume answers FOLDER
+       velejume convert [BLOCK]
+       velejume convert BLOCK.. --to FOLDER
        velejume draw FOLDER --seed S --count N [--columns M] [--depth A]
                      [--kind K,..] [--version V] [--answers WHOSE]
        velejume matrix --block [--columns M] [--version V] [TEXT]
@@ -32,6 +36,7 @@ usage: velejume phase [--answer] BLOCK..
   phase    divide the reads of blocks at the least cost
   judge    say what a builder's answer is worth, or all answers of a folder
   answers  write our answers for a folder of blocks
+  convert  turn blocks of version 1 into version 2, without empty reads
   draw     make a corpus: blocks of many kinds, the same for the same seed
   matrix   turn the notation 0:5 . / 1:3 0:2 into a block, or a block into it
 

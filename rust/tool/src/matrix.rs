@@ -1,11 +1,10 @@
 //! velejume matrix: the notation to a block and back.
 
 use crate::command::{Command, Fault, Status};
-use crate::output::{at, print};
+use crate::input;
+use crate::output::{at, print, say};
 use crate::words::Words;
 use matrix::Matrix;
-use std::io::{Read, stdin};
-use std::path::Path;
 use velejume::BLOCK_BYTES;
 
 pub const COMMAND: Command = Command {
@@ -22,7 +21,8 @@ no cell; a row of dots alone is a read without cells.
   --block      from a text to a block
   --columns M  the number of columns, where no row reaches the last
   --version V  version of the block: 1 for weights up to 255, 2 for weights up
-               to 65535; without it the least that holds the weights
+               to 65535; without it the least that holds the weights. Version 2
+               has no reads without cells: a row of dots alone is an error there
   --text       from a block to a text, a line for each read
 
 The exit status is 0 if it is written; 1 if the text is no matrix or the block
@@ -34,16 +34,6 @@ is refused; 2 if the file cannot be read or this usage is not kept.
 
 /// How long a text may be: 16 characters for each of 1,024 entries of 1,024 rows.
 const TEXT_BYTES: usize = 16 * 1024 * 1024;
-
-/// The bytes of standard input, at most so many.
-fn input(most: usize, what: &str) -> Result<Vec<u8>, String> {
-    let mut bytes = Vec::new();
-    stdin().lock().take(most as u64 + 1).read_to_end(&mut bytes).map_err(|fault| fault.to_string())?;
-    match bytes.len() > most {
-        true => Err(format!("it has more than {most} bytes, which no {what} has")),
-        false => Ok(bytes),
-    }
-}
 
 /// The block of a text, in the version that is given or needed, or what is wrong with it.
 fn block(text: Vec<u8>, columns: Option<usize>, version: Option<u8>) -> Result<Vec<u8>, String> {
@@ -73,17 +63,11 @@ fn run(words: &Words) -> Result<Status, Fault> {
         _ => return Err(Fault::Usage("either --block or --text".to_string())),
     };
     let (most, what) = if to_block { (TEXT_BYTES, "text") } else { (BLOCK_BYTES, "block") };
-    let paths = words.rest();
-    let (name, bytes) = match &paths[..] {
-        [] => (Path::new("standard input"), input(most, what)),
-        [path] => (path.as_path(), corpus::read_regular(path, most, what)),
-        _ => return Err(Fault::Usage("one file at most".to_string())),
-    };
-    let bytes = bytes.map_err(|why| Fault::Failed(at(name, format!("cannot be read: {why}"))))?;
+    let (name, bytes) = input::one(&words.rest(), most, what)?;
     match if to_block { block(bytes, columns, version) } else { text(bytes) } {
         Ok(output) => print(&output).map(|_| Status::Fine),
         Err(fault) => {
-            crate::output::say(&format!("velejume matrix: {}", at(name, fault)));
+            say(&format!("velejume matrix: {}", at(&name, fault)));
             Ok(Status::Found)
         }
     }

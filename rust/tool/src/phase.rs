@@ -3,7 +3,7 @@
 use crate::command::{Command, Fault, Status};
 use crate::output::{at, print, say};
 use crate::words::Words;
-use corpus::{Outcome, Progress, put, read_block};
+use corpus::{Outcome, Progress, put_answer, read_block};
 use std::path::Path;
 
 pub const COMMAND: Command = Command {
@@ -53,10 +53,10 @@ fn phased(path: &Path, answers: bool) -> Phased {
             return Phased { printed, said: None, status: Status::Found };
         }
     };
-    let made = answers.then(|| put(path, &answer.block())).filter(|made| !made.fine());
+    let made = answers.then(|| put_answer(path, &answer.block())).filter(|made| !made.fine());
     let status = match &made {
         None => Status::Fine,
-        Some(corpus::Made::Other) => Status::Found,
+        Some(corpus::Made::Other { .. }) => Status::Found,
         Some(_) => Status::Failed,
     };
     Phased { printed: answer.to_string(), said: made.map(|made| at(path, made)), status }

@@ -1,18 +1,28 @@
-//! P1 to P9 in both versions, as `phase` prints them, and the tables of P1 and P2.
+//! P1 to P9 in both versions, as `phase` prints them, and the tables of P1 and P2. P9 has a read without cells, which
+//! version 2 has not.
 
 use matrix::{VERSIONS, parse};
-use velejume::{Answer, phase};
+use velejume::{Answer, Refusal, convert, phase};
 
-/// The answer to a matrix, which is the same in both versions.
+/// The answer to a matrix whose reads have cells, which is the same in both versions. Its block of version 1 is converted into
+/// that of version 2.
 fn answer(text: &str, columns: Option<usize>) -> Answer {
     let matrix = parse(text, columns).unwrap();
-    let [narrow, wide] = VERSIONS.map(|version| phase(&matrix.clone().in_version(version).unwrap().block()).unwrap());
+    let [narrow, wide] = VERSIONS.map(|version| matrix.clone().in_version(version).unwrap().block());
+    assert_eq!(convert(&narrow).as_ref(), Ok(&wide), "{text}");
+    let [narrow, wide] = [narrow, wide].map(|block| phase(&block).unwrap());
     assert_eq!(narrow, wide, "{text}");
     wide
 }
 
+/// What `phase` prints: cost, flips, sides and both haplotypes.
+fn lines(values: &str) -> String {
+    let names = ["cost", "flips", "sides", "hap1", "hap2"];
+    names.iter().zip(values.split(", ")).map(|(name, value)| format!("{name} {value}\n")).collect()
+}
+
 #[test]
-fn p1_to_p9_get_their_answers() {
+fn p1_to_p8_get_their_answers() {
     let examples = [
         ("0:5 . / 1:3 0:2 / 1:6 1:1 / . 0:2", "1, 1, 1000, 10, 0-"),
         ("0:4 . 1:3 / 0:5 0:5 0:5 / 1:5 1:5 1:5", "3, 1, 001, 000, 111"),
@@ -22,14 +32,21 @@ fn p1_to_p9_get_their_answers() {
         ("0:3 / 0:3", "0, 0, 00, 0, -"),
         ("0:0 / 1:0", "0, 1, 00, -, -"),
         ("1:4 .", "0, 0, 0, 1-, --"),
-        (". / 0:7", "0, 0, 00, 0, -"),
     ];
     for (text, expected) in examples {
-        let printed = answer(text, text.is_empty().then_some(1)).to_string();
-        let names = ["cost", "flips", "sides", "hap1", "hap2"];
-        let lines = names.iter().zip(expected.split(", ")).map(|(name, value)| format!("{name} {value}\n"));
-        assert_eq!(printed, lines.collect::<String>(), "{text}");
+        assert_eq!(answer(text, text.is_empty().then_some(1)).to_string(), lines(expected), "{text}");
     }
+}
+
+#[test]
+fn p9_has_its_answer_in_version_1_and_is_converted_without_its_empty_read() {
+    let mut p9 = parse(". / 0:7", None).unwrap();
+    assert_eq!(phase(&p9.block()).unwrap().to_string(), lines("0, 0, 00, 0, -"));
+    let wide = convert(&p9.block()).unwrap();
+    assert_eq!(wide, parse("0:7", None).unwrap().in_version(2).unwrap().block());
+    assert_eq!(phase(&wide).unwrap().to_string(), lines("0, 0, 0, 0, -"));
+    p9.version = 2;
+    assert_eq!(phase(&p9.block()), Err(Refusal::NoCells { read: 0 }));
 }
 
 #[test]

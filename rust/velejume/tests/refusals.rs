@@ -1,7 +1,7 @@
 //! Each refusal with its words and its second number.
 
 use matrix::{VERSIONS, cell_bytes, parse};
-use velejume::{Refusal, phase, phase_in};
+use velejume::{Refusal, convert, convert_in, judge, phase, phase_in};
 
 /// The block of `0:5 . 1:3 / 0:7` in a version, and where its second read begins.
 fn example(version: u8) -> (Vec<u8>, usize) {
@@ -16,7 +16,7 @@ fn changed(block: &[u8], at: usize, byte: u8) -> Vec<u8> {
     block
 }
 
-/// A block for every refusal, 1 first, with the words.
+/// A block for every refusal from 1 to 9, with the words.
 fn refused(version: u8) -> [(Vec<u8>, Refusal, &'static str); 9] {
     let (whole, second) = example(version);
     let change = |at, byte| changed(&whole, at, byte);
@@ -57,6 +57,53 @@ fn each_refusal_of_a_block_has_its_words() {
         assert_eq!(refusal.number(), i as u32 + 1);
         assert_eq!(refusal.to_string(), words);
     }
+}
+
+#[test]
+fn a_read_without_cells_is_refused_in_version_2() {
+    // the second read loses its cell
+    let without = |version: u8| {
+        let (mut block, second) = example(version);
+        block.truncate(second + 4);
+        block[second + 1] = 2;
+        matrix::set_length(&mut block);
+        block
+    };
+    let refusal = phase(&without(2)).unwrap_err();
+    assert_eq!((refusal, refusal.number(), refusal.second()), (Refusal::NoCells { read: 1 }, 38, 1));
+    assert_eq!(refusal.to_string(), "read 1: c = 0 in version 2");
+    assert_eq!(judge(&without(2), b"no answer"), Err(refusal));
+    assert_eq!(phase(&without(1)).unwrap().sides, [0, 0]);
+}
+
+#[test]
+fn a_converting_refuses_as_a_phasing_but_for_versions_and_crowds() {
+    for (block, refusal, _) in refused(1) {
+        let converted = match refusal {
+            Refusal::Version => Err(Refusal::NotVersion1),
+            Refusal::Active { .. } => Ok(()),
+            refusal => Err(refusal),
+        };
+        assert_eq!(convert(&block).map(|_| ()), converted, "{block:?}");
+    }
+    let refusal = convert(&example(2).0).unwrap_err();
+    assert_eq!((refusal, refusal.number(), refusal.second()), (Refusal::NotVersion1, 2, 0));
+    assert_eq!(refusal.to_string(), "version not 1");
+}
+
+#[test]
+fn an_output_that_is_too_small_for_a_converting_is_refused_with_its_need() {
+    let [(narrow, _), (wide, _)] = VERSIONS.map(example);
+    let mut out = [9; 30];
+    for room in [0, 28] {
+        let refusal = convert_in(&narrow, &mut out[..room]).converted().unwrap_err();
+        assert_eq!((refusal, refusal.number(), refusal.second()), (Refusal::ConvertRoom { need: 29 }, 39, 29));
+        assert_eq!(refusal.to_string(), "output below the 29 bytes of the converted block");
+        assert_eq!(out, [9; 30]);
+    }
+    let numbers = convert_in(&narrow, &mut out);
+    assert_eq!((numbers.number, numbers.second, numbers.converted()), (0, 0, Ok(())));
+    assert_eq!((&out[..29], out[29]), (&wide[..], 9));
 }
 
 #[test]

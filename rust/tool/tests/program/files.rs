@@ -53,12 +53,15 @@ fn phase_says_what_they_are() {
 }
 
 #[test]
-fn judge_and_matrix_say_what_they_are() {
+fn judge_convert_and_matrix_say_what_they_are() {
     let (folder, others) = others("files-judge");
     fs::write(folder.join("x.answer"), "").unwrap();
     for (path, said) in others {
         unreadable(&words!["judge", &path, folder.join("x.answer")], &path, said);
         unreadable(&words!["matrix", "--text", &path], &path, said);
+        if !path.is_dir() {
+            unreadable(&words!["convert", &path], &path, said);
+        }
     }
 }
 
@@ -85,6 +88,10 @@ fn a_folder_of_them_is_judged_and_answered_with_a_line_for_each() {
     let lines: Vec<&str> = output.lines().collect();
     begin(&lines[..7], &wanted.into_iter().filter(|line| !line.starts_with("missing")).collect::<Vec<_>>());
     assert_eq!((lines[7], error.as_str(), status), ("0 written, 0 there already, 7 not ours", "", 1));
+    let (output, error, status) = run(&words!["convert", &folder, "--to", folder.join("wide")]);
+    let sum = "\n0 written, 0 there already, 7 not converted; 0 reads without cells left out\n";
+    assert!(output.lines().take(7).all(|line| line.contains(".block: the block cannot be read: ")), "{output}");
+    assert!(output.ends_with(sum) && error.is_empty() && status == 1, "{output}{error}");
 }
 
 #[test]

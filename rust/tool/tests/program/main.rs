@@ -2,6 +2,7 @@
 
 mod answers;
 mod common;
+mod convert;
 mod draw;
 mod example;
 mod files;

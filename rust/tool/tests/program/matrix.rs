@@ -40,6 +40,19 @@ fn the_version_is_the_one_given_or_needed() {
 }
 
 #[test]
+fn a_read_without_cells_is_an_error_in_version_2() {
+    let block = [1, 0, 0, 0, 14, 0, 1, 0, 2, 0, 2, 0, 0, 0, 4, 0, 0, 0, 7];
+    assert_eq!(run(&["--block"], b". / 0:7"), (block.to_vec(), String::new(), 0));
+    let said = "velejume matrix: standard input: row 1 has no entry: \
+                version 2, which weights above 255 take, has no reads without cells\n";
+    assert_eq!(run(&["--block", "--version", "2"], b". / 0:7"), (Vec::new(), said.to_string(), 1));
+    assert_eq!(run(&["--block"], b". / 0:256"), (Vec::new(), said.to_string(), 1));
+    let refused = "velejume matrix: standard input: refused 38 at 0\n".to_string();
+    let wide = [2, 0, 0, 0, 15, 0, 1, 0, 2, 0, 2, 0, 0, 0, 5, 0, 0, 0, 0, 7];
+    assert_eq!(run(&["--text"], &wide), (Vec::new(), refused, 1));
+}
+
+#[test]
 fn rows_are_separated_by_a_newline_as_well() {
     assert_eq!(run(&["--block"], b"0:5\n. 1:7\n"), (BLOCK.to_vec(), String::new(), 0));
     let text = run(&["--text"], &BLOCK).0;

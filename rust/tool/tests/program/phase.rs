@@ -2,7 +2,9 @@
 
 use crate::common::{P2, P2_LINES, P2_OURS, answer, block, folder, run};
 use crate::words;
+use matrix::Matrix;
 use std::fs;
+use std::ops::Range;
 
 #[test]
 fn one_block_gets_five_lines() {
@@ -80,12 +82,31 @@ fn answers_are_written_beside_the_blocks_and_kept_where_they_are() {
     assert_eq!(fs::read(folder.join("c.answer")).unwrap(), answer("0, 1, 001, 000, 111"));
 }
 
+/// 1,024 rows of such entries, in 12 layers over 1,024 columns.
+fn layers(entry: &str) -> Vec<String> {
+    let row = |place: Range<usize>| [vec!["."; place.start], vec![entry; place.len()]].concat().join(" ");
+    let layer = |rows: usize| (0..rows).map(move |i| i * 1024 / rows..(i + 1) * 1024 / rows);
+    [85, 85, 85, 85, 85, 85, 85, 85, 86, 86, 86, 86].into_iter().flat_map(layer).map(row).collect()
+}
+
+#[test]
+fn a_read_without_cells_is_refused_in_version_2_alone() {
+    let folder = folder("phase-empty");
+    let matrix = matrix::parse("0:7 / .", None).unwrap();
+    let lines = ["cost 0\nflips 0\nsides 00\nhap1 0\nhap2 -\n", "refused 38 at 1: read 1: c = 0 in version 2\n"];
+    for (version, lines) in matrix::VERSIONS.into_iter().zip(lines) {
+        fs::write(folder.join("a.block"), Matrix { version, ..matrix.clone() }.block()).unwrap();
+        let status = i32::from(version == 2);
+        assert_eq!(run(&words!["phase", folder.join("a.block")]), (lines.to_string(), String::new(), status));
+    }
+}
+
 #[test]
 fn the_largest_block_finds_room() {
     let folder = folder("phase-largest");
-    for (entry, name) in [("1:255", "narrow"), ("1:65535", "wide")] {
-        let mut rows = vec![vec![entry; 1024].join(" "); 12];
-        rows.resize(1024, ".".to_string());
+    let mut narrow = vec![vec!["1:255"; 1024].join(" "); 12];
+    narrow.resize(1024, ".".to_string());
+    for (rows, name) in [(narrow, "narrow"), (layers("1:65535"), "wide")] {
         let path = folder.join(format!("{name}.block"));
         fs::write(&path, block(&rows.join("/"))).unwrap();
         let (output, error, status) = run(&words!["phase", &path, "--answer"]);

@@ -34,6 +34,8 @@ fn a_closed_pipe_is_no_fault() {
     assert_eq!(unread(&words!["judge", &at, folder.join("a.answer")]), (String::new(), 1));
     assert_eq!(unread(&words!["judge", &folder]), (String::new(), 1));
     assert_eq!(unread(&words!["answers", &folder]), (String::new(), 1));
+    assert_eq!(unread(&words!["convert", &at]), (String::new(), 0));
+    assert_eq!(unread(&words!["convert", &folder, "--to", folder.join("wide")]), (String::new(), 0));
     assert_eq!(unread(&words!["matrix", "--text", &at]), (String::new(), 0));
     assert_eq!(unread(&words!["draw", folder.join("new"), "--seed", "1", "--count", "1"]), (String::new(), 0));
     for words in [words!["--help"], words!["--version"]] {

@@ -6,7 +6,7 @@ use std::fs;
 use std::path::Path;
 use std::process::Command;
 
-const COMMANDS: [&str; 5] = ["phase", "judge", "answers", "draw", "matrix"];
+const COMMANDS: [&str; 6] = ["phase", "judge", "answers", "convert", "draw", "matrix"];
 
 /// The options that a text names.
 fn options(text: &str) -> BTreeSet<String> {
@@ -39,7 +39,7 @@ fn the_version_is_that_of_the_package() {
 
 #[test]
 fn words_that_are_not_as_they_should_be_get_the_usage_and_status_2() {
-    let wrong: [(&[&str], &str); 33] = [
+    let wrong: [(&[&str], &str); 38] = [
         (&[], "no command is given"),
         (&["what"], "there is no command what"),
         (&["two\nlines"], "there is no command two\\u{a}lines"),
@@ -57,6 +57,10 @@ fn words_that_are_not_as_they_should_be_get_the_usage_and_status_2() {
         (&["answers"], "one folder"),
         (&["answers", "a", "b"], "one folder"),
         (&["answers", "a", "--make"], "there is no option --make"),
+        (&["convert", "a", "b"], "several blocks, or a folder, go with --to"),
+        (&["convert", "."], "several blocks, or a folder, go with --to"),
+        (&["convert", "--to", "a"], "no block is given"),
+        (&["convert", "--to", "a", "b/c", "d/c"], "d/c: another block of this name is given"),
         (&["draw", "--seed", "1", "--count", "1"], "one folder"),
         (&["draw", "a", "--count", "1"], "--seed has to be given"),
         (&["draw", "a", "--seed", "1"], "--count has to be given"),
@@ -70,6 +74,7 @@ fn words_that_are_not_as_they_should_be_get_the_usage_and_status_2() {
             "--kind pairs,x: it should be one or more of gapless, ",
         ),
         (&["draw", "a", "--seed=1", "--count=1", "--version=3"], "--version 3: it should be 1 or 2"),
+        (&["draw", "a", "--seed=1", "--count=1", "--version=2", "--kind=ties,empty"], "--kind empty goes with version 1"),
         (&["matrix"], "either --block or --text"),
         (&["matrix", "--version"], "--version needs 1 or 2"),
         (&["matrix", "--block", "--version", "02"], "--version 02: it should be 1 or 2"),

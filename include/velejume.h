@@ -8,8 +8,8 @@
 
    A fragment block, all numbers big-endian: version (1 byte), the number of bytes after byte 4 (4), columns m (2), reads n (2); then for each read
    L (2), its first column (2) and c cells. A cell is a letter (1), 0, 1 or 2 for a hole, and its weight, 0 for a hole. In version 1 a weight has 1
-   byte, so a cell has 2 and L = 2 + 2c; in version 2 a weight has 2 bytes, so a cell has 3 and L = 2 + 3c. Every call takes both versions, and the same
-   matrix gets the same answer in both. Reads and columns are numbered from 0.
+   byte, so a cell has 2 and L = 2 + 2c; in version 2 a weight has 2 bytes, so a cell has 3 and L = 2 + 3c, and every read has cells. Phasing and
+   judging take both versions, and the same matrix gets the same answer in both. Reads and columns are numbered from 0.
 
    A read is active in every column from its first to its last entry, holes between included. A is the largest number of active reads of any
    column; T is 1 if A = 0, otherwise 2 to the power A - 1. */
@@ -44,12 +44,16 @@
         4  m = 0, m > 1024 or n > 1024                                               0
         5  a read's L is cut off, L < 2, L is odd (in version 2: L - 2 is no         read
            multiple of 3), or L runs past the block
-        6  c = 0 with first column not 0, or first column + c > m                    read
+       38  c = 0 in version 2; looked for here, between 5 and 6                      read
+        6  c = 0 with first column not 0 (in version 1), or first column + c > m     read
         7  letter above 2, a hole with weight, first or last cell a hole             read
         8  bytes remain after the last read                                          0
         9  a column has more than 12 active reads                                    first such column
        10  work room below m x T entries                                             m x T
        11  output below 17 + n + 2m bytes                                            17 + n + 2m
+       39  of velejume_convert: output below the bytes of the converted block        these bytes
+
+   5, 38, 6 and 7 are looked for read by read: the first read that gets one of them is the second number.
 
    Verdicts on an answer. The first that applies is returned. "Ours" is what velejume_phase answers.
 
@@ -68,7 +72,7 @@
 extern "C" {
 #endif
 
-/* Phases a fragment block. Returns 0 on acceptance, with the least cost in *second, or a refusal, 1 to 11.
+/* Phases a fragment block. Returns 0 on acceptance, with the least cost in *second, or a refusal, 1 to 11 or 38.
 
    On acceptance the first 17 + n + 2m bytes of out hold the answer block, all numbers big-endian: version 2 (1 byte), the number of bytes after
    byte 4 (4), cost (4), flips (4), n (2), m (2), then n sides, m letters of haplotype 1 (side 0) and m of haplotype 2 (side 1), a byte each. A
@@ -84,9 +88,18 @@ uint32_t velejume_phase(const uint8_t *block, size_t block_len, uint32_t *work, 
                         uint32_t *second);
 
 /* Judges an answer block of version 2, of whatever program, to a fragment block. Returns a verdict, 50 to 57, with the table in the first m x T
-   entries of work and the others kept, or the refusal of the fragment block, 1 to 10. */
+   entries of work and the others kept, or the refusal of the fragment block, 1 to 10 or 38. */
 uint32_t velejume_judge(const uint8_t *block, size_t block_len, const uint8_t *answer, size_t answer_len, uint32_t *work,
                         size_t work_len, uint32_t *second);
+
+/* Converts a fragment block of version 1 into one of version 2 without its reads without cells (c = 0). Returns 0 on success, with 0 in *second and
+   the block of version 2 at the start of out, the rest of which is kept; or a refusal: 1, then 2 for any version but 1, a block of version 2 too,
+   then 3 to 8, then 39. More than 12 active reads are no reason to refuse.
+
+   The reads that have cells keep their order, first columns, letters and weights, so velejume_phase gives them the same sides and the block the same cost,
+   flips, letters and table; their numbers close up. With an empty output, 39 says how many bytes a block takes: VELEJUME_LARGEST_BLOCK suffice for every
+   one. */
+uint32_t velejume_convert(const uint8_t *block, size_t block_len, uint8_t *out, size_t out_len, uint32_t *second);
 
 #ifdef __cplusplus
 }

@@ -1,5 +1,5 @@
 /* What velejume.h says of lengths and versions: NULL with length 0 stands for each room, alone and together with others, both versions
-   of a matrix get the same answer, and the constants are the limits of the library. */
+   of a matrix get the same answer, one is converted into the other, and the constants are the limits of the library. */
 #include <stdio.h>
 #include <string.h>
 #include <velejume.h>
@@ -48,6 +48,16 @@ static void empty_rooms(void) {
   }
   number = velejume_judge(small, BLOCK, small, BLOCK, work, ENTRIES, &second);
   expect("a block as its own answer", 50, 0, number, second);
+  uint8_t converted[sizeof wide];
+  for (int empty = 0; empty < 4; empty++) {
+    int no_block = empty & 1, no_out = empty & 2;
+    size_t block_len = no_block ? 0 : BLOCK, out_len = no_out ? 0 : sizeof wide;
+    uint32_t refusal = no_block ? 1 : no_out ? 39 : 0, beside = !no_block && no_out ? sizeof wide : 0;
+    number = velejume_convert(no_block ? NULL : small, block_len, no_out ? NULL : converted, out_len, &second);
+    expect("convert, NULL", refusal, beside, number, second);
+    number = velejume_convert(small, block_len, converted, out_len, &second);
+    expect("convert, length 0", refusal, beside, number, second);
+  }
 }
 
 static void versions(void) {
@@ -63,9 +73,31 @@ static void versions(void) {
   expect("judge, version 2", 57, 0, number, second);
 }
 
+/* . / 0:7 / . of version 1: its read with cells alone is converted */
+static void conversion(void) {
+  static const uint8_t empty[] = {1, 0, 0, 0, 18, 0, 1, 0, 3, 0, 2, 0, 0, 0, 4, 0, 0, 0, 7, 0, 2, 0, 0};
+  static const uint8_t one[] = {2, 0, 0, 0, 11, 0, 1, 0, 1, 0, 5, 0, 0, 0, 0, 7};
+  uint8_t converted[sizeof wide + 1], kept[sizeof wide + 1];
+  uint32_t number, second;
+  memset(converted, 9, sizeof converted), memset(kept, 9, sizeof kept);
+  number = velejume_convert(small, sizeof small, converted, sizeof wide - 1, &second);
+  expect("a byte too few", 39, sizeof wide, number, second);
+  number = velejume_convert(wide, sizeof wide, converted, sizeof converted, &second);
+  expect("version 2", 2, 0, number, second);
+  expect("nothing is written", 0, 0, (uint32_t)memcmp(converted, kept, sizeof kept), 0);
+  number = velejume_convert(small, sizeof small, converted, sizeof converted, &second);
+  expect("version 1", 0, 0, number, second);
+  expect("what is written", 0, 9, (uint32_t)memcmp(converted, wide, sizeof wide), converted[sizeof wide]);
+  memset(converted, 9, sizeof converted);
+  number = velejume_convert(empty, sizeof empty, converted, sizeof one, &second);
+  expect("reads without cells", 0, 0, number, second);
+  expect("the other", 0, 9, (uint32_t)memcmp(converted, one, sizeof one), converted[sizeof one]);
+}
+
 static uint8_t block[VELEJUME_LARGEST_BLOCK + 1];
 static uint32_t work[VELEJUME_MOST_ENTRIES];
 static uint8_t out[VELEJUME_LARGEST_ANSWER];
+static uint8_t converted[VELEJUME_LARGEST_BLOCK];
 
 static size_t put(size_t at, size_t number) {
   block[at] = (uint8_t)(number >> 8);
@@ -87,6 +119,12 @@ static size_t build(size_t columns, size_t reads, size_t cells) {
   return at;
 }
 
+/* puts reads of one cell, so many, at columns of their own */
+static void spread(size_t reads) {
+  size_t read_bytes = version == 1 ? 6 : 7;
+  for (size_t read = 0; read < reads; read++) put(9 + read_bytes * read + 2, read);
+}
+
 static void constants(void) {
   uint32_t number, second;
   size_t size = build(VELEJUME_MOST_COLUMNS, VELEJUME_MOST_ACTIVE, VELEJUME_MOST_COLUMNS);
@@ -95,11 +133,15 @@ static void constants(void) {
   size = build(VELEJUME_MOST_COLUMNS, VELEJUME_MOST_ACTIVE + 1, VELEJUME_MOST_COLUMNS);
   number = velejume_phase(block, size, work, VELEJUME_MOST_ENTRIES, out, VELEJUME_LARGEST_ANSWER, &second);
   expect("one more active read", 9, 0, number, second);
-  size = build(VELEJUME_MOST_COLUMNS, VELEJUME_MOST_READS, 0);
+  size = build(VELEJUME_MOST_COLUMNS, VELEJUME_MOST_READS, 1);
+  spread(VELEJUME_MOST_READS);
   number = velejume_phase(block, size, work, VELEJUME_MOST_ENTRIES, out, VELEJUME_LARGEST_ANSWER - 1, &second);
   expect("the largest answer less one", 11, VELEJUME_LARGEST_ANSWER, number, second);
   number = velejume_phase(block, size, work, VELEJUME_MOST_ENTRIES, out, VELEJUME_LARGEST_ANSWER, &second);
   expect("the largest answer", 0, 0, number, second);
+  size = build(VELEJUME_MOST_COLUMNS, VELEJUME_MOST_READS, 0);
+  number = velejume_phase(block, size, work, VELEJUME_MOST_ENTRIES, out, VELEJUME_LARGEST_ANSWER, &second);
+  expect("reads without cells", version == 1 ? 0 : 38, 0, number, second);
   size = build(VELEJUME_MOST_COLUMNS + 1, 0, 0);
   number = velejume_phase(block, size, work, VELEJUME_MOST_ENTRIES, out, VELEJUME_LARGEST_ANSWER, &second);
   expect("one more column", 4, 0, number, second);
@@ -110,6 +152,12 @@ static void constants(void) {
   number = velejume_phase(block, size, work, VELEJUME_MOST_ENTRIES, out, VELEJUME_LARGEST_ANSWER, &second);
   expect("the largest block", 9, 0, number, second);
   expect("its length", version == 1 ? 2101257 : VELEJUME_LARGEST_BLOCK, 0, (uint32_t)size, 0);
+  number = velejume_convert(block, size, converted, VELEJUME_LARGEST_BLOCK - 1, &second);
+  expect("a byte too few for it", version == 1 ? 39 : 2, version == 1 ? VELEJUME_LARGEST_BLOCK : 0, number, second);
+  number = velejume_convert(block, size, converted, VELEJUME_LARGEST_BLOCK, &second);
+  expect("converted", version == 1 ? 0 : 2, 0, number, second);
+  /* what version 1 was converted into is what version 2 is built as */
+  if (version == 2) expect("into the largest block", 0, 0, (uint32_t)memcmp(converted, block, size), 0);
 }
 
 /* All entries are zeros at the heaviest weight, and an answer has ones for all of them: its cost is the weight of all entries. */
@@ -138,6 +186,7 @@ static void largest_cost(void) {
 int main(void) {
   empty_rooms();
   versions();
+  conversion();
   for (version = 1; version <= 2; version++) constants();
   version = 2;
   largest_cost();

@@ -1,10 +1,11 @@
-/* Both sides of every limit in both versions, through the C name: numbers, what both rooms hold, and a guard behind each room. The
+/* Both sides of every limit in both versions, through the C names: numbers, what the rooms hold, and a guard behind each room. The
    largest block, 1,024 columns under 12 reads, is held against plain search through its 2,048 divisions: every table entry too. */
 typedef unsigned char u8;
 typedef unsigned int u32;
 typedef unsigned long usize;
 
 u32 velejume_phase(const u8 *block, usize block_len, u32 *work, usize work_len, u8 *out, usize out_len, u32 *second);
+u32 velejume_convert(const u8 *block, usize block_len, u8 *out, usize out_len, u32 *second);
 int printf(const char *format, ...);
 
 enum { GUARD = 16, MOST_WORK = 1024 * 2048, MOST_OUT = 17 + 1024 + 2048, MOST_BLOCK = 400000 };
@@ -13,6 +14,7 @@ static u8 block[MOST_BLOCK];
 static usize size;
 static u32 work[MOST_WORK + GUARD];
 static u8 out[MOST_OUT + GUARD];
+static u8 wide[MOST_BLOCK + GUARD];
 static int passed, failed;
 
 static void expect(int ok, const char *what) {
@@ -92,6 +94,17 @@ static void call(usize work_len, usize out_len, u32 number, u32 second, const ch
   expect(kept, what);
 }
 
+/* one converting with an output of this size: the numbers, and that a refusal and the guard leave everything as it was */
+static void convert(usize out_len, u32 number, u32 second, const char *what) {
+  for (usize i = 0; i < out_len + GUARD; i++) wide[i] = 77;
+  u32 got = 99999;
+  expect(velejume_convert(block, size, wide, out_len, &got) == number, what);
+  expect(got == second, what);
+  int kept = 1;
+  for (usize i = number ? 0 : out_len; i < out_len + GUARD; i++) kept &= wide[i] == 77;
+  expect(kept, what);
+}
+
 static u32 lesser(u32 a, u32 b) { return a < b ? a : b; }
 
 /* 12 reads over all columns: entry k of column j is the sum of charges to j of the one division that k stands for */
@@ -165,6 +178,22 @@ static void longest(usize ample) {
   expect(size == (version == 1 ? 28681 : 40969), "the bytes of the longest block");
   call(MOST_WORK, ample - 1, 11, MOST_OUT, "the longest block, output one byte short");
   call(MOST_WORK, ample, 0, 0, "the longest block");
+  convert(40968, version == 1 ? 39 : 2, version == 1 ? 40969 : 0, "the longest block, converted into one byte too few");
+  convert(40969, version == 1 ? 0 : 2, 0, "the longest block, converted");
+}
+
+/* a read without cells, which version 2 does not have: after 5, before 6, and by its number */
+static void without_cells(usize ample) {
+  begin(3, 1), read_of(0, 0, 0), finish(), call(3, ample, version == 1 ? 0 : 38, 0, "no cells");
+  begin(3, 1), read_of(7, 0, 0), finish(), call(3, ample, version == 1 ? 6 : 38, 0, "no cells from column 7 on");
+  begin(3, 2), read_of(0, 1, 0), read_of(0, 0, 0), finish();
+  call(3, ample, version == 1 ? 0 : 38, 1, "the second read has no cells");
+  convert(16, version == 1 ? 0 : 2, 0, "the first alone is converted");
+  convert(15, version == 1 ? 39 : 2, version == 1 ? 16 : 0, "a byte too few for it");
+  begin(3, 2), read_of(0, 0, 0), read_of(3, 1, 0), finish();
+  call(3, ample, version == 1 ? 6 : 38, version == 1 ? 1 : 0, "no cells before a cell at column m");
+  begin(3, 2), read_of(3, 1, 0), read_of(0, 0, 0), finish();
+  call(3, ample, 6, 0, "a cell at column m before no cells");
 }
 
 static void limits(void) {
@@ -172,12 +201,17 @@ static void limits(void) {
   begin(1024, 0), finish(), call(1024, ample, 0, 0, "m 1,024");
   begin(1025, 0), finish(), call(1025, ample, 4, 0, "m 1,025");
   begin(0, 0), finish(), call(1, ample, 4, 0, "m 0");
+  begin(1024, 1024);
+  for (u32 r = 0; r < 1024; r++) read_of(r, 1, 0);
+  finish(), call(1024, ample, 0, 0, "n 1,024");
+  begin(1024, 1025);
+  for (u32 r = 0; r < 1025; r++) read_of(r % 1024, 1, 0);
+  finish(), call(2048, ample, 4, 0, "n 1,025");
   begin(1, 1024);
   for (int r = 0; r < 1024; r++) read_of(0, 0, 0);
-  finish(), call(1, ample, 0, 0, "n 1,024");
-  begin(1, 1025);
-  for (int r = 0; r < 1025; r++) read_of(0, 0, 0);
-  finish(), call(1, ample, 4, 0, "n 1,025");
+  finish(), call(1, ample, version == 1 ? 0 : 38, 0, "n 1,024 without cells");
+  convert(9, version == 1 ? 0 : 2, 0, "n 1,024 without cells, converted");
+  convert(8, version == 1 ? 39 : 2, version == 1 ? 9 : 0, "into one byte too few");
   begin(3, 12);
   for (int r = 0; r < 11; r++) read_of(1, 1, 0);
   read_of(0, 3, 1), finish(), call(3 * 2048, ample, 0, 0, "12 active, one by its gap");
@@ -201,6 +235,7 @@ static void limits(void) {
   call(1, 19, 11, 20, "output one byte short of 20");
   call(1, 20, 0, 0, "output of just 20 bytes");
   cells(ample);
+  without_cells(ample);
   longest(ample);
   heavy = 0, largest();
   heavy = 1, largest();

@@ -1,7 +1,7 @@
 /* The call against plain search: random blocks of up to 8 reads, solved here by trying every division, with no thought of
    columns that follow from one another. Both numbers, every entry of the work room and every byte of the output are compared,
-   and guards behind both rooms. Blocks of both versions come gapless, in pairs, with holes, with ties, weight 0 and empty reads, and
-   damaged. */
+   and guards behind both rooms. Blocks of both versions come gapless, in pairs, with holes, with ties, weight 0 and empty reads, which
+   version 2 refuses, and damaged. */
 typedef unsigned char u8;
 typedef unsigned int u32;
 typedef unsigned long usize;
@@ -42,7 +42,7 @@ static void refuse(u32 a, u32 b) {
   second = b;
 }
 
-/* checks 1 to 8, in order; the cells are kept where they fit */
+/* checks 1 to 8, in order, 38 between 5 and 6; the cells are kept where they fit */
 static int checked(void) {
   if (size < 9) return refuse(1, 0), 0;
   if (block[0] != 1 && block[0] != 2) return refuse(2, 0), 0;
@@ -55,6 +55,7 @@ static int checked(void) {
     u32 l = word(at);
     if (l < 2 || (l - 2) % bytes() || size - at - 2 < l) return refuse(5, r), 0;
     u32 f = word(at + 2), c = (l - 2) / bytes();
+    if (c == 0 && block[0] == 2) return refuse(38, r), 0;
     if ((c == 0 && f != 0) || f + c > m) return refuse(6, r), 0;
     for (u32 i = 0; i < c; i++) {
       usize cell = at + 4 + bytes() * i;
@@ -178,7 +179,7 @@ static void make(u32 version, u32 kind) {
   put16(columns);
   put16(reads);
   for (u32 r = 0; r < reads; r++) {
-    u32 c = next(8) ? 1 + next(columns) : 0, f = c ? next(columns - c + 1) : 0;
+    u32 c = next(version == 1 ? 8 : 64) ? 1 + next(columns) : 0, f = c ? next(columns - c + 1) : next(9) ? 0 : 7;
     put16(2 + bytes() * c);
     put16(f);
     for (u32 i = 0; i < c; i++) {
@@ -221,7 +222,7 @@ static int same(u32 number_given, u32 second_given, const u32 *work, usize work_
 int main(void) {
   static u32 work[WORK + GUARD];
   static u8 out[OUT + GUARD];
-  u32 seen[2][12] = {{0}}, passed = 0, failed = 0, damaged = 0;
+  u32 seen[2][39] = {{0}}, passed = 0, failed = 0, damaged = 0;
   state = 20150601;
   for (u32 i = 0; i < 16000; i++) {
     u32 version = 1 + i / 4 % 2;
@@ -247,7 +248,8 @@ int main(void) {
     u32 *given = seen[version - 1];
     for (u32 i = 0; i < 12; i++)
       if (!given[i] && i != 9) failed++, printf("search: number %u was never given in version %u\n", i, version);
-    printf("search: version %u, accepted %u, refused by 5, 6, 7: %u, %u, %u\n", version, given[0], given[5], given[6], given[7]);
+    if (!given[38] && version == 2) failed++, printf("search: number 38 was never given in version 2\n");
+    printf("search: version %u, accepted %u, refused by 5, 38, 6, 7: %u, %u, %u, %u\n", version, given[0], given[5], given[38], given[6], given[7]);
   }
   printf("search: %u blocks, %u of them damaged\n", passed, damaged);
   printf("%u passed, %u failed\n", passed, failed);

@@ -31,11 +31,13 @@ class Inputs(unittest.TestCase):
                 self.assertEqual(velejume.judge(kind, bytearray(ANSWER.block)).number, 57)
                 self.assertEqual(velejume.judge(kind, memoryview(ANSWER.block)).number, 57)
                 self.assertEqual(velejume.matrix_of(kind), velejume.matrix_of(BLOCK))
+                self.assertEqual(velejume.convert(kind), velejume.convert(BLOCK))
 
     def test_inputs_are_kept(self):
         block, answer = bytearray(BLOCK), bytearray(ANSWER.block)
         velejume.phase(block)
         velejume.judge(block, answer)
+        velejume.convert(block)
         self.assertEqual((bytes(block), bytes(answer)), (BLOCK, ANSWER.block))
         block += b"\0"  # no view of it is left
 
@@ -43,7 +45,7 @@ class Inputs(unittest.TestCase):
         wrong = [None, 9, 1.5, "0:5", ["0:5"], [1, 0, 0], object(), array.array("H", [1, 2]), array.array("I", [1])]
         for value in wrong:
             with self.subTest(repr(value)):
-                for call in (velejume.phase, velejume.matrix_of, lambda block: velejume.judge(block, b""), lambda answer: velejume.judge(BLOCK, answer)):
+                for call in (velejume.phase, velejume.matrix_of, velejume.convert, lambda block: velejume.judge(block, b""), lambda answer: velejume.judge(BLOCK, answer)):
                     with self.assertRaises(TypeError):
                         call(value)
 

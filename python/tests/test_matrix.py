@@ -31,10 +31,13 @@ class Blocks(unittest.TestCase):
 
     def test_versions(self):
         self.assertEqual(velejume.block_of("0:4 . 1:255", version=2).hex(), "02000000" + "11" + "0003" + "0001" + "000b" + "0000" + "000004" + "020000" + "0100ff")
-        self.assertEqual(velejume.block_of("0:256 / .").hex(), "02000000" + "0f" + "0001" + "0002" + "0005" + "0000" + "000100" + "0002" + "0000")
+        self.assertEqual(velejume.block_of("0:256").hex(), "02000000" + "0b" + "0001" + "0001" + "0005" + "0000" + "000100")
         self.assertEqual([velejume.block_of(text)[0] for text in ("0:255", "0:256", "1:65535", ".")], [1, 2, 2, 1])
         with self.assertRaisesRegex(ValueError, "^row 2, entry 3: weight 256 is above 255, which takes version 2$"):
             velejume.block_of("0:255 / . 0:1 1:256", version=1)
+        for text, version in (("0:256 / . / .", None), ("0:5 / . / .", 2)):
+            with self.assertRaisesRegex(ValueError, "^row 2 has no entry: version 2, which weights above 255 take, has no reads without cells$"):
+                velejume.block_of(text, version=version)
         for version in (0, 3, -1, "2"):
             with self.assertRaisesRegex(ValueError, f"^version {version}: a block has version 1 or 2$"):
                 velejume.block_of("0:5", version=version)
@@ -84,6 +87,9 @@ class Matrices(unittest.TestCase):
         with self.assertRaises(velejume.Refused) as caught:
             velejume.matrix_of(b"\1\0\0\0\4\0\0\0\0")
         self.assertEqual((caught.exception.number, caught.exception.second), (4, 0))
+        with self.assertRaises(velejume.Refused) as caught:
+            velejume.matrix_of(b"\2\0\0\0\10\0\1\0\1\0\2\0\0")
+        self.assertEqual((caught.exception.number, caught.exception.second), (38, 0))
         crowded = velejume.block_of(" / ".join(["0:1"] * 13))
         self.assertEqual(velejume.matrix_of(crowded), " /\n".join(["0:1"] * 13))
 
@@ -94,6 +100,8 @@ class Matrices(unittest.TestCase):
         for version, heaviest in ((1, 255), (2, 255), (2, 65535)) * 100:
             columns = dice.randrange(1, 9)
             rows = [[dice.choice([".", f"{dice.randrange(2)}:{dice.randint(0, heaviest)}"]) for _ in range(columns)] for _ in range(dice.randrange(1, 9))]
+            if version == 2:
+                rows = [row for row in rows if set(row) != {"."}] or [["0:0"]]
             blocks.append(velejume.block_of(" / ".join(map(" ".join, rows)), version=version))
             self.assertEqual(blocks[-1][0], version)
         for block in blocks:

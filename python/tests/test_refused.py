@@ -21,6 +21,8 @@ CASES = [
     (5, 1, bytes([1, 0, 0, 0, 12, 0, 1, 0, 2, 0, 4, 0, 0, 0, 7, 0, 1])),
     (5, 0, bytes([2, 0, 0, 0, 10, 0, 1, 0, 1, 0, 4, 0, 0, 0, 7])),
     (5, 0, bytes([2, 0, 0, 0, 9, 0, 1, 0, 1, 0, 1, 0, 0, 0])),
+    (38, 0, bytes([2, 0, 0, 0, 8, 0, 1, 0, 1, 0, 2, 0, 0])),
+    (38, 1, bytes([2, 0, 0, 0, 15, 0, 1, 0, 2, 0, 5, 0, 0, 0, 0, 7, 0, 2, 0, 7])),
     (6, 0, bytes([1, 0, 0, 0, 8, 0, 1, 0, 1, 0, 2, 0, 1])),
     (6, 0, bytes([1, 0, 0, 0, 12, 0, 1, 0, 1, 0, 6, 0, 0, 0, 7, 0, 7])),
     (7, 0, bytes([1, 0, 0, 0, 10, 0, 1, 0, 1, 0, 4, 0, 0, 2, 0])),
@@ -34,7 +36,7 @@ CASES = [
 
 class Refusals(unittest.TestCase):
     def test_both_numbers(self):
-        self.assertEqual({number for number, _, _ in CASES}, set(range(1, 10)))
+        self.assertEqual({number for number, _, _ in CASES}, {*range(1, 10), 38})
         for number, second, block in CASES:
             for call in (velejume.phase, lambda given: velejume.judge(given, velejume.phase(ONE))):
                 with self.subTest(number=number, block=block.hex()[:40]):
@@ -44,25 +46,29 @@ class Refusals(unittest.TestCase):
                     self.assertTrue(str(caught.exception).startswith(f"refused {number} at {second}: "))
 
     def test_rooms(self):
-        """10 and 11 are of rooms, which `phase` and `judge` make large enough."""
+        """10, 11 and 39 are of rooms, which `phase`, `judge` and `convert` make large enough."""
         self.assertEqual(_calls.phase_in(ONE, _calls.work_room(0), _calls.output_room(0)), (10, 1))
         self.assertEqual(_calls.phase_in(ONE, _calls.work_room(1), _calls.output_room(19)), (11, 20))
         self.assertEqual(_calls.judge_in(ONE, b"", _calls.work_room(0)), (10, 1))
+        self.assertEqual(_calls.convert_in(ONE, _calls.output_room(15)), (39, 16))
 
     def test_words(self):
-        said = [str(velejume.Refused(number, 6)) for number in range(1, 12)]
-        self.assertEqual(len(set(said)), 11)
-        for number in (5, 6, 7):
-            self.assertIn("read 6:", said[number - 1])
-        self.assertIn("column 6 ", said[8])
-        self.assertIn("6 entries", said[9])
-        self.assertIn("6 bytes", said[10])
+        said = {number: str(velejume.Refused(number, 6)) for number in (*range(1, 12), 38, 39)}
+        self.assertEqual(len(set(said.values())), 13)
+        for number in (5, 38, 6, 7):
+            self.assertIn("read 6:", said[number])
+        self.assertIn("column 6 ", said[9])
+        self.assertIn("6 entries", said[10])
+        for number in (11, 39):
+            self.assertIn("6 bytes", said[number])
         self.assertIn("no words", str(velejume.Refused(99, 0)))
 
     def test_is_an_exception_of_values(self):
         self.assertTrue(issubclass(velejume.Refused, ValueError))
         again = pickle.loads(pickle.dumps(velejume.Refused(9, 2)))
         self.assertEqual((again.number, again.second, str(again)), (9, 2, "refused 9 at 2: column 2 has more than 12 active reads"))
+        again = pickle.loads(pickle.dumps(velejume.Refused(2, 0, "version not 1")))
+        self.assertEqual((again.number, again.second, str(again)), (2, 0, "refused 2 at 0: version not 1"))
 
 
 if __name__ == "__main__":

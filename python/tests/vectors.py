@@ -33,6 +33,14 @@ class Judged(NamedTuple):
     work: list
 
 
+class Converted(NamedTuple):
+    block: bytes
+    #: what the output holds afterwards; it is lent as large, with all bytes a5
+    out: bytes
+    number: int
+    second: int
+
+
 def phased():
     """After a head, four lines a case and a blank one: name, block, what was printed before letters could be `-`, what is printed. A block may
     be empty, and its line then is."""
@@ -66,7 +74,10 @@ def solved():
 
 
 def judged():
-    """38 is a refusal of reads without cells that the library does not have."""
     for given, number, second, rooms in _lines("judge.txt"):
-        if number != 38:
-            yield Judged(_bytes(given["block"]), _bytes(given["answer"]), int(given["work"]), number, second, _entries(rooms["work"]))
+        yield Judged(_bytes(given["block"]), _bytes(given["answer"]), int(given["work"]), number, second, _entries(rooms["work"]))
+
+
+def converted():
+    for given, number, second, rooms in _lines("convert.txt"):
+        yield Converted(_bytes(given["block"]), _bytes(rooms["out"]), number, second)

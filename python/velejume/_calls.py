@@ -1,4 +1,4 @@
-"""Phasing and judging: the library's calls, with as much room as they ask for."""
+"""Phasing, judging and converting: the library's calls, with as much room as they ask for."""
 
 from __future__ import annotations
 
@@ -14,7 +14,9 @@ from ._verdict import Verdict
 #: what a block or an answer block is given as
 Bytes = Union[bytes, bytearray, memoryview]
 
+_VERSION = 2
 _WORK_ROOM = 10
+_CONVERT_ROOM = 39
 _LARGEST_ANSWER = 17 + 1024 + 2 * 1024
 
 
@@ -52,6 +54,13 @@ def judge_in(block: bytes, answer: bytes, work: ctypes.Array[ctypes.c_uint32]) -
     """Both numbers of the C call, in this room."""
     second = ctypes.c_uint32()
     number = library.velejume_judge(block, len(block), answer, len(answer), work, len(work), ctypes.byref(second))
+    return number, second.value
+
+
+def convert_in(block: bytes, out: ctypes.Array[ctypes.c_uint8]) -> tuple[int, int]:
+    """Both numbers of the C call, in this room."""
+    second = ctypes.c_uint32()
+    number = library.velejume_convert(block, len(block), out, len(out), ctypes.byref(second))
     return number, second.value
 
 
@@ -99,3 +108,36 @@ def judge(block: Bytes, answer: Union[Bytes, Answer]) -> Verdict:
     if verdict is None:
         raise Refused(number, second)
     return verdict
+
+
+def convert(block: Bytes) -> bytes:
+    """The block of version 2 that a fragment block of version 1 becomes without its reads without cells, which version 2 does not have. The others
+    keep their order, letters and weights, and so their sides, the haplotypes and the cost; their numbers close up. Raises `Refused`, with 2 for
+    any version but 1.
+
+    >>> import velejume
+    >>> narrow = velejume.block_of(". / 0:5 1:3 / 1:6 .")
+    >>> wide = velejume.convert(narrow)
+    >>> print(wide[0], velejume.matrix_of(wide), sep="\\n")
+    2
+    0:5 1:3 /
+    1:6 .
+    >>> velejume.phase(narrow).sides, velejume.phase(wide).sides
+    ((0, 0, 1), (0, 1))
+    >>> velejume.convert(wide)
+    Traceback (most recent call last):
+        ...
+    velejume.Refused: refused 2 at 0: version not 1
+    """
+    block = bytes_of("block", block)
+    out = output_room(0)
+    # without room a block is refused by 39, which says how many bytes it takes, if not by a number before it
+    number, second = convert_in(block, out)
+    if number == _CONVERT_ROOM:
+        out = output_room(second)
+        number, second = convert_in(block, out)
+    if number == _VERSION:
+        raise Refused(number, second, "version not 1")
+    if number != 0:
+        raise Refused(number, second)
+    return bytes(out)

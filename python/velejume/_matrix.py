@@ -9,6 +9,7 @@ from ._calls import Bytes, bytes_of, output_room, phase_in, work_room
 from ._refused import Refused
 
 _MOST = 1024
+_ACTIVE_READS, _WORK_ROOM = 9, 10
 _ENTRY = re.compile(r"([01]):(0|[1-9][0-9]{0,4})")
 _HOLE = (2, 0)
 #: by version, how heavy an entry can be and the bytes of its weight
@@ -56,7 +57,8 @@ def _version(rows: list[list[_Cell]], given: Optional[int]) -> int:
 def block_of(text: str, columns: Optional[int] = None, version: Optional[int] = None) -> bytes:
     """The fragment block of a matrix. Rows are separated by `/` or a newline, or both, entries by blanks. `0:5` is letter 0 of weight 5, `.` a hole
     or no cell; a row of dots alone is a read without cells. The longest row says how many columns there are, unless they are given. The block has
-    version 2 if some weight is above 255, else version 1, unless the version is given. A text that is no matrix raises ValueError.
+    version 2 if some weight is above 255, else version 1, unless the version is given. Version 2 has no reads without cells. A text that is no
+    matrix of its version raises ValueError.
 
     >>> import velejume
     >>> velejume.block_of("0:5 . / 1:3 0:2").hex()
@@ -93,6 +95,8 @@ def block_of(text: str, columns: Optional[int] = None, version: Optional[int] = 
         if len(cells) > columns:
             raise ValueError(f"row {row} has {len(cells)} entries, columns given: {columns}")
         entries = [column for column, cell in enumerate(cells) if cell != _HOLE]
+        if version == 2 and not entries:
+            raise ValueError(f"row {row} has no entry: version 2, which weights above {_HEAVIEST[1]} take, has no reads without cells")
         first, end = (entries[0], entries[-1] + 1) if entries else (0, 0)
         reads += (2 + (1 + weight_bytes) * (end - first)).to_bytes(2, "big") + first.to_bytes(2, "big")
         for letter, weight in cells[first:end]:
@@ -103,7 +107,7 @@ def block_of(text: str, columns: Optional[int] = None, version: Optional[int] = 
 
 def matrix_of(block: Bytes) -> str:
     """The matrix of a fragment block of either version, a line for each read, each with all columns; nothing for a block without reads. Raises
-    `Refused` with 1 to 8: a block that is refused by 9, for its active reads, has a matrix too.
+    `Refused` with 1 to 8 or 38: a block that is refused by 9, for its active reads, has a matrix too.
 
     >>> import velejume
     >>> print(velejume.matrix_of(velejume.block_of("0:5 . / 1:3 0:2 / . 0:2")))
@@ -113,7 +117,7 @@ def matrix_of(block: Bytes) -> str:
     """
     block = bytes_of("block", block)
     number, second = phase_in(block, work_room(0), output_room(0))
-    if number < 9:
+    if number not in (_ACTIVE_READS, _WORK_ROOM):
         raise Refused(number, second)
     columns, reads = int.from_bytes(block[5:7], "big"), int.from_bytes(block[7:9], "big")
     cell_bytes = 1 + _WEIGHT_BYTES[block[0]]

@@ -2,6 +2,8 @@
 
 from __future__ import annotations
 
+from typing import Optional
+
 _WORDS = {
     1: "fewer than 9 bytes",
     2: "version neither 1 nor 2",
@@ -14,11 +16,13 @@ _WORDS = {
     9: "column {second} has more than 12 active reads",
     10: "the work room is below {second} entries",
     11: "the output is below {second} bytes",
+    38: "read {second}: no cells, which a read of version 2 has",
+    39: "the output is below the {second} bytes of the converted block",
 }
 
 
 class Refused(ValueError):
-    """A block is refused. `number` is the refusal's, 1 to 11, and `second` its second number: a read, a column or a size, 0 where there is none.
+    """A block is refused. `number` is the refusal's, 1 to 11, 38 or 39, and `second` its second number: a read, a column or a size, 0 where there is none.
 
     >>> import velejume
     >>> velejume.phase(b"no block")
@@ -32,15 +36,18 @@ class Refused(ValueError):
     9 1 column 1 has more than 12 active reads
     """
 
-    def __init__(self, number: int, second: int) -> None:
-        super().__init__(number, second)
+    def __init__(self, number: int, second: int, words: Optional[str] = None) -> None:
+        """The words are given where a call has words of its own for a number."""
+        super().__init__(*((number, second) if words is None else (number, second, words)))
         self.number = number
         self.second = second
+        self._words = words
 
     @property
     def words(self) -> str:
         """The refusal in words."""
-        return _WORDS.get(self.number, "a refusal that this module has no words for").format(second=self.second)
+        words = self._words or _WORDS.get(self.number, "a refusal that this module has no words for")
+        return words.format(second=self.second)
 
     def __str__(self) -> str:
         return f"refused {self.number} at {self.second}: {self.words}"

@@ -30,7 +30,7 @@ fn tally(seed: u64, version: u8, kinds: &[Kind], fields: &[Option<Field>], times
 
 #[test]
 fn whole_blocks_are_converted_alike() {
-    for (kinds, times) in [(&Kind::SMALL[..], 1000), (&Kind::LARGE, 100)] {
+    for (kinds, times) in [(&Kind::SMALL[..], 1000), (&Kind::LARGE[..], 100)] {
         let narrow = tally(31, 1, kinds, &[None], times);
         narrow.require("kind", kinds);
         narrow.require("number", [0, 39]);
@@ -41,7 +41,7 @@ fn whole_blocks_are_converted_alike() {
 
 #[test]
 fn blocks_damaged_in_each_field_are_converted_alike() {
-    for (kinds, times) in [(&Kind::SMALL[..], 100), (&Kind::LARGE, 20)] {
+    for (kinds, times) in [(&Kind::SMALL[..], 100), (&Kind::LARGE[..], 20)] {
         let narrow = tally(33, 1, kinds, &Field::ALL.map(Some), times);
         narrow.require("damaged", Field::ALL);
         narrow.require("number", (0..=8).chain([39]));
@@ -257,13 +257,11 @@ fn looks_for_room_first(block: &[u8], out: &mut [u8]) -> Numbers {
 
 /// Takes version 2 as it is.
 fn takes_version_2(block: &[u8], out: &mut [u8]) -> Numbers {
-    match (Matrix::read(block), out.get_mut(..block.len())) {
-        (Ok(Matrix { version: 2, .. }), Some(room)) => {
-            room.copy_from_slice(block);
-            (0, 0)
-        }
-        _ => solver::convert(block, out),
+    if let (Ok(Matrix { version: 2, .. }), true) = (Matrix::read(block), block.len() <= out.len()) {
+        out[..block.len()].copy_from_slice(block);
+        return (0, 0);
     }
+    solver::convert(block, out)
 }
 
 /// Looks at the length before the version.

@@ -63,14 +63,19 @@ fn blocks_of(folder: &Path) -> Result<Vec<PathBuf>, Fault> {
     }
 }
 
+/// The first block that has the name of one before it.
+fn twice(blocks: &[PathBuf]) -> Option<&PathBuf> {
+    let mut names = BTreeSet::new();
+    blocks.iter().find(|block| !names.insert(block.file_name()))
+}
+
 /// All blocks that are named, themselves or by their folder. No two may have one name: they are written into one folder.
 fn all_blocks(paths: &[PathBuf]) -> Result<Vec<PathBuf>, Fault> {
     let mut blocks = Vec::new();
     for path in paths {
         blocks.extend(if path.is_dir() { blocks_of(path)? } else { vec![path.clone()] });
     }
-    let mut names = BTreeSet::new();
-    match blocks.iter().find(|block| !names.insert(block.file_name())) {
+    match twice(&blocks) {
         Some(block) => Err(Fault::Usage(at(block, "another block of this name is given"))),
         None if blocks.is_empty() => Err(Fault::Usage("no block is given".to_string())),
         None => Ok(blocks),
@@ -105,9 +110,10 @@ fn convert_all(paths: &[PathBuf], to: &Path) -> Result<Status, Fault> {
     let count = |which: Made| converted.iter().filter(|converted| converted.made == which).count();
     let (written, there) = (count(Made::Written), count(Made::There));
     let left_out: usize = converted.iter().map(|converted| converted.left_out).sum();
-    let others = converted.len() - written - there;
-    let sum = format!("{written} written, {there} there already, {others} not converted; {left_out} reads without cells left out\n");
-    print(format!("{lines}{sum}").as_bytes())?;
+    let not = converted.len() - written - there;
+    lines += &format!("{written} written, {there} there already, {not} not converted; ");
+    lines += &format!("{left_out} reads without cells left out\n");
+    print(lines.as_bytes())?;
     Ok(worst)
 }
 

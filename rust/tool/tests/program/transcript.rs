@@ -36,3 +36,16 @@ fn the_page_on_corpora_shows_what_comes_out() {
     assert!(has(&page, &sums.join("\n")), "{sums:?}");
     assert!(room.join("suite-5.html").exists() && !room.join("suite-6.html").exists());
 }
+
+#[test]
+fn the_page_on_corpora_shows_what_is_converted() {
+    let page = Path::new(env!("CARGO_MANIFEST_DIR")).join("../../docs/CORPUS.md");
+    let page = fs::read_to_string(page).unwrap();
+    let room = folder("transcript-converted");
+    let [old, new] = ["old", "new"].map(|name| room.join(name));
+    let more = ["--seed", "2026", "--count", "80", "--kind", "pairs,empty"];
+    let (table, _, _) = run(&[words!["draw", &old].to_vec(), more.map(Into::into).to_vec()].concat());
+    let (sum, _, _) = run(&words!["convert", &old, "--to", &new]);
+    let drawn = format!("$ velejume draw old {}\n{table}", more.join(" "));
+    assert!(has(&page, &format!("{drawn}$ velejume convert old --to new\n{sum}")), "{drawn}{sum}");
+}

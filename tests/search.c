@@ -1,12 +1,13 @@
 /* The call against plain search: random blocks of up to 8 reads, solved here by trying every division, with no thought of
    columns that follow from one another. Both numbers, every entry of the work room and every byte of the output are compared,
    and guards behind both rooms. Blocks of both versions come gapless, in pairs, with holes, with ties, weight 0 and empty reads, which
-   version 2 refuses, and damaged. */
+   version 2 refuses, and damaged. Each block is converted too, against a converter of its own. */
 typedef unsigned char u8;
 typedef unsigned int u32;
 typedef unsigned long usize;
 
 u32 velejume_phase(const u8 *block, usize block_len, u32 *work, usize work_len, u8 *out, usize out_len, u32 *second);
+u32 velejume_convert(const u8 *block, usize block_len, u8 *out, usize out_len, u32 *second);
 int printf(const char *format, ...);
 
 enum { COLUMNS = 7, READS = 8, CELLS = 16, GUARD = 8, WORK = 4096, OUT = 256, BLOCK = 1024 };
@@ -160,6 +161,38 @@ static void search(usize work_len, usize out_len) {
   refuse(0, sums[best][m - 1]);
 }
 
+/* the block in version 2 without its empty reads */
+static u8 longer[2 * BLOCK];
+static usize longer_size;
+
+static void longer16(u32 x) {
+  longer[longer_size++] = (u8)(x >> 8);
+  longer[longer_size++] = (u8)x;
+}
+
+static void widen(usize out_len) {
+  if (size >= 9 && block[0] != 1) return refuse(2, 0);
+  if (!checked()) return;
+  u32 kept = 0;
+  usize at = 9;
+  longer_size = 9;
+  for (u32 r = 0; r < n; r++, at += 2 + word(at)) {
+    u32 c = (word(at) - 2) / 2;
+    if (!c) continue;
+    kept++;
+    longer16(2 + 3 * c);
+    longer16(word(at + 2));
+    for (u32 i = 0; i < c; i++) longer[longer_size++] = block[at + 4 + 2 * i], longer16(block[at + 5 + 2 * i]);
+  }
+  usize end = longer_size;
+  longer_size = 0;
+  longer[longer_size++] = 2;
+  longer16(0), longer16((u32)end - 5), longer16(m), longer16(kept);
+  longer_size = end;
+  if (out_len < end) refuse(39, (u32)end);
+  else refuse(0, 0);
+}
+
 static void put16(u32 x) {
   block[size++] = (u8)(x >> 8);
   block[size++] = (u8)x;
@@ -219,10 +252,21 @@ static int same(u32 number_given, u32 second_given, const u32 *work, usize work_
   return 1;
 }
 
+/* whether a converting into so many bytes gives and leaves what the one above does */
+static int converts(usize out_len) {
+  static u8 out[2 * BLOCK + GUARD];
+  for (usize i = 0; i < out_len + GUARD; i++) out[i] = (u8)(100 + i);
+  u32 got = 99, given = velejume_convert(block, size, out, out_len, &got);
+  if (given != number || got != second) return 0;
+  for (usize i = 0; i < out_len + GUARD; i++)
+    if (out[i] != (!number && i < longer_size ? longer[i] : (u8)(100 + i))) return 0;
+  return 1;
+}
+
 int main(void) {
   static u32 work[WORK + GUARD];
   static u8 out[OUT + GUARD];
-  u32 seen[2][39] = {{0}}, passed = 0, failed = 0, damaged = 0;
+  u32 seen[2][39] = {{0}}, turned[40] = {0}, passed = 0, failed = 0, damaged = 0, blocks = 0;
   state = 20150601;
   for (u32 i = 0; i < 16000; i++) {
     u32 version = 1 + i / 4 % 2;
@@ -242,8 +286,19 @@ int main(void) {
       failed++;
       printf("search: case %u: expected %u at %u, given %u at %u\n", i, number, second, given, got);
     }
-    seen[version - 1][number]++;
+    seen[version - 1][number]++, blocks++;
+    usize room = next(3) ? 2 * BLOCK : next(120);
+    widen(room);
+    if (converts(room)) {
+      passed++;
+    } else {
+      failed++;
+      printf("search: case %u: converted, expected %u at %u\n", i, number, second);
+    }
+    turned[number]++;
   }
+  for (u32 i = 0; i < 40; i++)
+    if (!turned[i] && (i < 9 || i == 39)) failed++, printf("search: number %u was never given to a converting\n", i);
   for (u32 version = 1; version <= 2; version++) {
     u32 *given = seen[version - 1];
     for (u32 i = 0; i < 12; i++)
@@ -251,7 +306,8 @@ int main(void) {
     if (!given[38] && version == 2) failed++, printf("search: number 38 was never given in version 2\n");
     printf("search: version %u, accepted %u, refused by 5, 38, 6, 7: %u, %u, %u, %u\n", version, given[0], given[5], given[38], given[6], given[7]);
   }
-  printf("search: %u blocks, %u of them damaged\n", passed, damaged);
+  printf("search: %u converted, %u refused by 2, %u by 39\n", turned[0], turned[2], turned[39]);
+  printf("search: %u blocks, %u of them damaged\n", blocks, damaged);
   printf("%u passed, %u failed\n", passed, failed);
   return failed != 0;
 }

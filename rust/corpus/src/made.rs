@@ -12,10 +12,15 @@ pub enum Made {
     /// the same was there already
     There,
     /// another is there; it is kept
-    Other { what: &'static str },
+    Other {
+        what: &'static str,
+    },
     /// the block that it comes from is refused or cannot be read
     Not(Outcome),
-    Unwritable { what: &'static str, why: String },
+    Unwritable {
+        what: &'static str,
+        why: String,
+    },
 }
 
 impl Made {

@@ -18,7 +18,7 @@ fn tally(seed: u64, version: u8, kinds: &[Kind], fields: &[Option<Field>], times
     tally
 }
 
-/// 38, a read without cells, is given in version 2 alone.
+/// 38, for a read without cells, which version 2 alone refuses.
 fn empty_reads(version: u8) -> impl Iterator<Item = u32> {
     (version == 2).then_some(38).into_iter()
 }

@@ -141,7 +141,7 @@ fn every_length_field_is_lawful_exactly_where_it_is_a_number_of_cells() {
             let expected = match length {
                 0..2 => (5, 0),
                 _ if (length - 2) % cell != 0 || length > 2 + cell * 1024 => (5, 0),
-                2 if version == 2 => (38, 0), // the read has no cells
+                2 if version == 2 => (38, 0),            // the read has no cells
                 _ if length < 2 + cell * 1024 => (8, 0), // the read is shorter, and bytes remain
                 _ => (0, 0),
             };

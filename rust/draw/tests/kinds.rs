@@ -87,7 +87,9 @@ fn blocks_of_version_2_are_lawful_and_have_the_reads_of_version_1() {
 
 #[test]
 fn every_matrix_has_what_its_kind_promises() {
-    for (kind, version) in VERSIONS.into_iter().flat_map(|version| Kind::of(version).into_iter().map(move |kind| (kind, version))) {
+    for (kind, version) in
+        VERSIONS.into_iter().flat_map(|version| Kind::of(version).into_iter().map(move |kind| (kind, version)))
+    {
         let plan = Plan { version, ..plan(kind, 3, None, None) };
         let kept = (0..400).filter(|&number| keeps(kind, &plan.matrix(number))).count();
         // what ties repeat and which weights are 0 is left to chance

@@ -23,13 +23,7 @@ unsafe extern "C" {
         second: *mut u32,
     ) -> u32;
 
-    fn velejume_convert(
-        block: *const u8,
-        block_len: usize,
-        out: *mut u8,
-        out_len: usize,
-        second: *mut u32,
-    ) -> u32;
+    fn velejume_convert(block: *const u8, block_len: usize, out: *mut u8, out_len: usize, second: *mut u32) -> u32;
 }
 
 /// What a call returns: 0 on acceptance or success, a verdict's number, or that of a refusal; and the second number.

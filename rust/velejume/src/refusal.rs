@@ -80,9 +80,10 @@ impl Refusal {
     /// The second number: a read, a column or a size, 0 where there is none.
     pub fn second(&self) -> u32 {
         match *self {
-            Refusal::ReadLength { read } | Refusal::NoCells { read } | Refusal::Columns { read } | Refusal::Cell { read } => {
-                read
-            }
+            Refusal::ReadLength { read }
+            | Refusal::NoCells { read }
+            | Refusal::Columns { read }
+            | Refusal::Cell { read } => read,
             Refusal::Active { column } => column,
             Refusal::WorkRoom { need } | Refusal::OutputRoom { need } | Refusal::ConvertRoom { need } => need,
             _ => 0,

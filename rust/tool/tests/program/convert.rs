@@ -142,7 +142,8 @@ fn a_drawn_corpus_keeps_its_costs_and_its_haplotypes() {
     assert_eq!((error.as_str(), status), ("", 0));
     let mut shorter = 0;
     for name in names(&to) {
-        let [narrow, wide] = [&from, &to].map(|folder| velejume::phase(&fs::read(folder.join(&name)).unwrap()).unwrap());
+        let [narrow, wide] =
+            [&from, &to].map(|folder| velejume::phase(&fs::read(folder.join(&name)).unwrap()).unwrap());
         assert_eq!((narrow.cost, narrow.flips, &narrow.haplotypes), (wide.cost, wide.flips, &wide.haplotypes));
         let is_empty = name.to_str().unwrap().ends_with("-empty.block");
         assert_eq!(wide.sides.len() < narrow.sides.len(), is_empty, "{name:?}");

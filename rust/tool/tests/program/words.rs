@@ -74,7 +74,10 @@ fn words_that_are_not_as_they_should_be_get_the_usage_and_status_2() {
             "--kind pairs,x: it should be one or more of gapless, ",
         ),
         (&["draw", "a", "--seed=1", "--count=1", "--version=3"], "--version 3: it should be 1 or 2"),
-        (&["draw", "a", "--seed=1", "--count=1", "--version=2", "--kind=ties,empty"], "--kind empty goes with version 1"),
+        (
+            &["draw", "a", "--seed=1", "--count=1", "--version=2", "--kind=ties,empty"],
+            "--kind empty goes with version 1",
+        ),
         (&["matrix"], "either --block or --text"),
         (&["matrix", "--version"], "--version needs 1 or 2"),
         (&["matrix", "--block", "--version", "02"], "--version 02: it should be 1 or 2"),

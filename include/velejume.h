@@ -39,7 +39,7 @@
 
    Number  Given exactly when                                                        Second number
         1  fewer than 9 bytes                                                        0
-        2  version neither 1 nor 2                                                   0
+        2  version neither 1 nor 2 (of velejume_convert: not 1)                      0
         3  length field differs from the bytes present after byte 4                  0
         4  m = 0, m > 1024 or n > 1024                                               0
         5  a read's L is cut off, L < 2, L is odd (in version 2: L - 2 is no         read

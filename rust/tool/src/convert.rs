@@ -15,6 +15,7 @@ pub const COMMAND: Command = Command {
     help: "\
 usage: velejume convert [BLOCK]
        velejume convert BLOCK.. --to FOLDER
+       velejume convert FOLDER --to FOLDER
 
 Converts fragment blocks of version 1 into blocks of version 2 without their
 reads without cells, which version 2 does not have. The other reads keep their
@@ -22,10 +23,10 @@ order, letters and weights, and so their sides, both haplotypes and the cost;
 their numbers close up. Without --to, one block from a file or from standard
 input to standard output.
 
-  --to FOLDER  write each block under its own name into this folder, which is
-               made if it is not there; a file that is there is kept. A folder
-               of blocks, NAME.block, can be given for BLOCK. Prints a line for
-               each block that is not converted then, and how many are
+  --to FOLDER  write each block, of a folder each NAME.block, under its own name
+               into this folder, which is made if it is not there; a file that
+               is there is kept. Prints a line for each block that is not
+               converted then, how many are, and how many reads were left out
 
 Answers are not converted: where reads are left out, an answer has sides that
 the new block has no reads for. 'velejume answers FOLDER' writes new ones.

@@ -28,6 +28,7 @@ usage: velejume phase [--answer] BLOCK..
        velejume answers FOLDER
        velejume convert [BLOCK]
        velejume convert BLOCK.. --to FOLDER
+       velejume convert FOLDER --to FOLDER
        velejume draw FOLDER --seed S --count N [--columns M] [--depth A]
                      [--kind K,..] [--version V] [--answers WHOSE]
        velejume matrix --block [--columns M] [--version V] [TEXT]

@@ -1,5 +1,5 @@
 # Turns the vectors into equations of antt. In phase.txt a case is four lines and a blank one: name, block in hex, the output before a tie was no letter, the
-# output. In solve.txt a case is a line: what is lent, both numbers, what both rooms hold afterwards.
+# output. In solve.txt a case is a line: what is lent, both numbers, what both rooms hold afterwards. In convert.txt it is one too, with one room.
 function value(s,   i, x) {
   x = 0
   for (i = 1; i <= length(s); i++) x = x * 16 + index("0123456789abcdef", tolower(substr(s, i, 1))) - 1
@@ -33,6 +33,7 @@ BEGIN {
   print "use Rattle.meaning.specs.Answer.{answer, answerBytes}"
   print "use Rattle.meaning.specs.Refusals.{Numbers, passed, refusal}"
   print "use Rattle.meaning.specs.Call.{call}"
+  print "use Rattle.meaning.specs.Convert.{converting}"
   print "use lib.ListN.{replicate}"
   print "use Rattle.meaning.specs.Opened.{opened}"
 }
@@ -45,6 +46,15 @@ BEGIN {
   if (length(block) > 1200 || (got[1] == 0 && !few(value(substr(block, 15, 4)), value(substr(block, 11, 4))))) next
   printf "\nvector-%d : call %s (replicate %s 2779096485) (replicate %s 165)\n", ++made, bytes(block == "." ? "" : block), given[6], given[8]
   printf "    ≡ record { number = %s; second = %s; work = %s; out = %s }\n", got[1], got[2], numbers(got[4]), bytes(got[6] == "." ? "" : got[6])
+  printf "unfolding opened\nvector-%d = refl\n", made
+  next
+}
+/^block=/ {
+  split($0, half, " -> ")
+  split(half[1], given, /[ =]/)
+  split(half[2], got, /[ =]/)
+  printf "\nvector-%d : converting %s (replicate %s 165)\n", ++made, bytes(given[2] == "." ? "" : given[2]), given[4]
+  printf "    ≡ record { number = %s; second = %s; out = %s }\n", got[1], got[2], bytes(got[4] == "." ? "" : got[4])
   printf "unfolding opened\nvector-%d = refl\n", made
   next
 }

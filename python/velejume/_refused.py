@@ -16,7 +16,7 @@ _WORDS = {
     9: "column {second} has more than 12 active reads",
     10: "the work room is below {second} entries",
     11: "the output is below {second} bytes",
-    38: "read {second}: no cells, which a read of version 2 has",
+    38: "read {second}: no cells in version 2",
     39: "the output is below the {second} bytes of the converted block",
 }
 

@@ -55,6 +55,7 @@ pub fn prepare(
     ensures { λ _. ⌜ LightPairs (now (w .exit)) p 65535 ⌝ }
     ensures { λ _. ⌜ ((i : ℕ) → i < p
         → getD (now (turn .exit)) i 0 ≡ turnAt (startsBefore (firstAt (now (places .entry))) (now (list .entry)) j) p i) ⌝ }
+    ensures { λ _. ⌜ (length (now (w .exit)) ≡ 12) × (length (now (turn .exit)) ≡ 12) ⌝ }
 {
     let mut seen: usize = 0;
     let mut head: usize = 0;

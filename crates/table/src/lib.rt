@@ -28,37 +28,47 @@ fn take_over(lists: &[u16], j: usize, t: usize, s: usize, work: &[u32], taken: &
     carry::carry(&work[from..to], plain::entries(s), taken);
 }
 
-// Column j by the rule, from what the column before it holds: all its entries, written through its part of the work room.
+// Which column, and how many entries a column has.
+struct Place {
+    j: usize,
+    t: usize,
+}
+
+// Column j by the rule, from what the column before it holds: all its entries, written through its part of the work room. `w` and `turn` are
+// room for what its reads bring.
 fn column_by_rule(
     shape: layout::Shape,
     reads: &[u8],
     places: &[u32],
     lists: &[u16],
-    j: usize,
-    t: usize,
+    at: Place,
+    w: &mut [[u32; 2]; 12],
+    turn: &mut [usize; 12],
     taken: &mut [u32],
     work: &mut [u32],
 )
     requires { ⌜ Ready shape (now reads) (now places) (now lists) ⌝ }
-    requires { ⌜ (j < shape .m) × (t ≡ entries (matrixIn shape (now reads))) ⌝ }
-    requires { ⌜ (t ≤ length (now taken)) × (shape .m * t ≤ length (now work)) ⌝ }
-    requires { ⌜ (0 < j → (k : ℕ) → getD (columnOf (matrixIn shape (now reads)) (now work) (j - 1)) k 0 ≤ 4000000000) ⌝ }
+    requires { ⌜ (at .j < shape .m) × (at .t ≡ entries (matrixIn shape (now reads))) ⌝ }
+    requires { ⌜ (at .t ≤ length (now taken)) × (shape .m * at .t ≤ length (now work)) ⌝ }
+    requires { ⌜ (0 < at .j → (k : ℕ) → getD (columnOf (matrixIn shape (now reads)) (now work) (at .j - 1)) k 0 ≤ 4000000000) ⌝ }
+    requires { ⌜ (length (now w) ≡ 12) × (length (now turn) ≡ 12) ⌝ }
     ensures { λ _. ⌜ now (work .exit)
-        ≡ laid (j * t) (ruleColumn charge (matrixIn shape (now (reads .entry))) j (columnOf (matrixIn shape (now
-        (reads .entry))) (now (work .entry)) (j - 1)))
+        ≡ laid (at .j * at .t) (ruleColumn charge (matrixIn shape (now (reads .entry))) (at .j) (columnOf (matrixIn shape (now
+        (reads .entry))) (now (work .entry)) (at .j - 1)))
         (now (work .entry)) ⌝ }
+    ensures { λ _. ⌜ (length (now (w .exit)) ≡ 12) × (length (now (turn .exit)) ≡ 12) ⌝ }
 {
+    let j = at.j;
+    let t = at.t;
     let a = 13 * j + 1;
     let e = a + 12;
     let list = &lists[a..e];
     let p = plain::index(lists[13 * j]);
-    let mut w = [[0u32; 2]; 12];
-    let mut turn = [0usize; 12];
-    let s = cells::prepare(shape, reads, places, list, p, j, &mut w, &mut turn);
+    let s = cells::prepare(shape, reads, places, list, p, j, w, turn);
     take_over(lists, j, t, s, work, taken);
     let from = j * t;
     let to = from + t;
-    column::fill(&w, &turn, p, taken, &mut work[from..to]);
+    column::fill(w, turn, p, taken, &mut work[from..to]);
 }
 
 // All columns in turn.
@@ -76,9 +86,22 @@ pub fn fill_table(
     requires { ⌜ (t ≤ length (now taken)) × (shape .m * t ≤ length (now work)) ⌝ }
     ensures { λ _. ⌜ now (work .exit) ≡ over (table charge (matrixIn shape (now (reads .entry)))) (now (work .entry)) ⌝ }
 {
+    let mut w = [[0u32; 2]; 12];
+    let mut turn = [0usize; 12];
     let mut j: usize = 0;
     while j < shape.m {
-        column_by_rule(shape, reads, places, lists, j, t, taken, work);
+        let at = Place { j: j, t: t };
+        column_by_rule(
+            shape,
+            reads,
+            places,
+            lists,
+            at,
+            &mut w,
+            &mut turn,
+            taken,
+            work,
+        );
         j += 1;
     }
 }

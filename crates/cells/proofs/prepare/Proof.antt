@@ -189,7 +189,10 @@ returns c =
         λ i k. l .inv .2 .each i (omega arith),
         (
           λ i k. l .inv .2 .light i (omega arith),
-          masks-all _ (s .args .p) (l .turn) (l .seen) (l .head) _ m (ap (λ (n : ℕ). n - 1) (c .entries .ensures)),
+          (
+            masks-all _ (s .args .p) (l .turn) (l .seen) (l .head) _ m (ap (λ (n : ℕ). n - 1) (c .entries .ensures)),
+            (l .inv .1, simp length-set (m .long)),
+          ),
         ),
       ),
     )

@@ -1,7 +1,7 @@
 use borrow.Author.Needs.{needs}
 use native.Mathlib.Omega.{arith}
 use Prim.Native.Nat.{ℕ, _*_, _≤_}
-use mathlib.Core.Path.{_≡_, refl, ap, _∙_}
+use mathlib.Core.Path.{_≡_, ap, _∙_}
 use mathlib.Core.List.{List}
 use lib.ListN.{length}
 use Rattle.meaning.specs.Call.{laid}
@@ -19,21 +19,21 @@ use Rattle.plain.proofs.index.Reads as index-reads
 use Rattle.table.proofs.take_over.Reads as take-over-reads
 
 -- the plain numbers of column j
-sizes : (c : tie.Start) → ColumnSizes (c .args .shape) (c .args .reads .now) (c .args .places .now) (c .args .lists .now) (c .pre .0) (c .args .j) (c .args .t)
-sizes c = column-sizes _ _ _ _ (c .pre .0) (c .args .j) (c .args .t) (c .pre .1 .0 .0) (c .pre .1 .0 .1)
+sizes : (c : tie.Start) → ColumnSizes (c .args .shape) (c .args .reads .now) (c .args .places .now) (c .args .lists .now) (c .pre .0) (c .args .at .j) (c .args .at .t)
+sizes c = column-sizes _ _ _ _ (c .pre .0) (c .args .at .j) (c .args .at .t) (c .pre .1 .0 .0) (c .pre .1 .0 .1)
 
 -- how many reads are shared
-shared : (c : tie.After-prepare) → let s = c .before .before .before .before .before .before .before .before .before .before .before in c .prepare .result ≡ length (sharedBefore (matrixIn (s .args .shape) (s .args .reads .now)) (s .args .j))
+shared : (c : tie.After-prepare) → let s = c .before .before .before .before .before .before .before .before .before .before .before in c .prepare .result ≡ length (sharedBefore (matrixIn (s .args .shape) (s .args .reads .now)) (s .args .at .j))
 shared c =
     let s = c .before .before .before .before .before .before .before .before .before .before .before in
     let w = c .before .before .before .index in
-    shared-are _ _ _ _ (s .pre .0) (s .args .j) (s .pre .1 .0 .0) (w .result) (w .ensures .0) (c .prepare .result) (c .prepare .ensures .0)
+    shared-are _ _ _ _ (s .pre .0) (s .args .at .j) (s .pre .1 .0 .0) (w .result) (w .ensures .0) (c .prepare .result) (c .prepare .ensures .0)
 
 -- what is taken over
-taken : (c : tie.After-take-over) → let s = c .before .before .before .before .before .before .before .before .before .before .before .before .before .before in TakenBefore (matrixIn (s .args .shape) (s .args .reads .now)) (s .args .j) (s .args .work .now) (c .take-over .last .1 .1 .1 .1 .1 .0)
+taken : (c : tie.After-take-over) → let s = c .before .before .before .before .before .before .before .before .before .before .before .before .before .before in TakenBefore (matrixIn (s .args .shape) (s .args .reads .now)) (s .args .at .j) (s .args .work .now) (c .take-over .last .1 .1 .1 .1 .1 .0)
 taken c =
     let s = c .before .before .before .before .before .before .before .before .before .before .before .before .before .before in
-    handed _ _ _ _ (s .pre .0) (s .args .j) (s .args .t) ((c .before .before .before) .prepare .result) (s .pre .1 .0 .0) (s .pre .1 .0 .1) (shared (c .before .before .before)) (s .args .work .now) _ (c .take-over .ensures)
+    handed _ _ _ _ (s .pre .0) (s .args .at .j) (s .args .at .t) ((c .before .before .before) .prepare .result) (s .pre .1 .0 .0) (s .pre .1 .0 .1) (shared (c .before .before .before)) (s .args .work .now) _ (c .take-over .ensures)
 
 mul-a : tie.Need-mul-a
 mul-a c = omega (arith, sizes (c .before .before .before .before .before))
@@ -69,12 +69,12 @@ index-requires : tie.Need-index-requires
 index-requires c κs = search needs
 
 prepare-requires : tie.Need-prepare-requires
-prepare-requires c κs = let s = c .before .before .before .before .before .before .before .before .before .before in (cells-laid _ _ _ _ (s .pre .0) (s .args .j) (s .pre .1 .0 .0) ((c .before .before) .index .result) ((c .before .before) .index .ensures .0), (refl, refl))
+prepare-requires c κs = let s = c .before .before .before .before .before .before .before .before .before .before in (cells-laid _ _ _ _ (s .pre .0) (s .args .at .j) (s .pre .1 .0 .0) ((c .before .before) .index .result) ((c .before .before) .index .ensures .0), (s .pre .1 .1 .1 .1 .0, s .pre .1 .1 .1 .1 .1))
 
 take-over-requires : tie.Need-take-over-requires
 take-over-requires c κs =
     let s = c .before .before .before .before .before .before .before .before .before .before .before .before .before in
-    handing _ _ _ _ (s .pre .0) (s .args .j) (s .args .t) ((c .before .before) .prepare .result) (s .pre .1 .0 .0) (s .pre .1 .0 .1) (shared (c .before .before)) (s .args .work .now) (s .args .taken .now)
+    handing _ _ _ _ (s .pre .0) (s .args .at .j) (s .args .at .t) ((c .before .before) .prepare .result) (s .pre .1 .0 .0) (s .pre .1 .0 .1) (shared (c .before .before)) (s .args .work .now) (s .args .taken .now)
     (s .pre .1 .1 .0 .0) (s .pre .1 .1 .0 .1)
 
 mul-from : tie.Need-mul-from
@@ -102,10 +102,10 @@ fill-requires c κs =
     let g = c .before .before .before .before .before .before .before .before .before .prepare in
     let o = c .before .before .before .before .before .before in
     let k : length (o .take-over .last .1 .1 .1 .1 .1 .0) ≡ length (s .args .taken .now) = o .take-over .kept .1 .1 .1 .1 .1 .0 in
-    let r : s .args .t ≤ length (s .args .taken .now) = s .pre .1 .1 .0 .0 in
-    fill-fits _ _ _ _ (s .pre .0) (s .args .j) (s .pre .1 .0 .0) (w .result) (w .ensures .0) (g .last .1 .1 .1 .1 .1 .1 .1 .0) (g .ensures .1 .1 .1) (s .args .t) (s .pre .1 .0 .1)
+    let r : s .args .at .t ≤ length (s .args .taken .now) = s .pre .1 .1 .0 .0 in
+    fill-fits _ _ _ _ (s .pre .0) (s .args .at .j) (s .pre .1 .0 .0) (w .result) (w .ensures .0) (g .last .1 .1 .1 .1 .1 .1 .1 .0) (g .ensures .1 .1 .1 .0) (s .args .at .t) (s .pre .1 .0 .1)
     (g .last .1 .1 .1 .1 .1 .1 .0) (o .take-over .last .1 .1 .1 .1 .1 .0) (s .args .work .now) (s .pre .1 .1 .0 .1) (g .ensures .1 .1 .0)
-    (before-fits _ _ _ _ (s .pre .0) (s .args .j) (s .args .t) (s .pre .1 .0 .0) (s .pre .1 .0 .1) (s .args .work .now) (o .take-over .last .1 .1 .1 .1 .1 .0) (omega arith) (taken o) (s .pre .1 .1 .1))
+    (before-fits _ _ _ _ (s .pre .0) (s .args .at .j) (s .args .at .t) (s .pre .1 .0 .0) (s .pre .1 .0 .1) (s .args .work .now) (o .take-over .last .1 .1 .1 .1 .1 .0) (omega arith) (taken o) (s .pre .1 .1 .1 .0))
 
 same-length : tie.Need-same-length
 same-length c = search needs
@@ -119,11 +119,13 @@ returns c =
     let w = c .before .before .before .before .before .before .before .before .before .before .before .before .before .before .before .index in
     let g = c .before .before .before .before .before .before .before .before .before .before .before .before .prepare in
     let o = c .before .before .before .before .before .before .before .before .before in
-    let f = c .before .before .fill in
-    pass-laid _ _ _ _ (s .pre .0) (s .args .j) (s .pre .1 .0 .0) (w .result) (w .ensures .0) (s .args .t) (s .pre .1 .0 .1) (g .last .1 .1 .1 .1 .1 .1 .0) (g .last .1 .1 .1 .1 .1 .1 .1 .0)
-    (o .take-over .last .1 .1 .1 .1 .1 .0) (s .args .work .now) (f .last .1 .1 .1 .1 .0) (s .pre .1 .1 .0 .1) (g .ensures .1 .0) (g .ensures .1 .1 .1) (f .ensures)
-    ∙ ap (λ (x : List ℕ). laid (s .args .j * s .args .t) x (s .args .work .now))
-    (before-over (matrixIn (s .args .shape) (s .args .reads .now)) (s .args .j) (s .args .work .now) (o .take-over .last .1 .1 .1 .1 .1 .0) (taken o))
+    let f = c .before .before .fill in (
+      pass-laid _ _ _ _ (s .pre .0) (s .args .at .j) (s .pre .1 .0 .0) (w .result) (w .ensures .0) (s .args .at .t) (s .pre .1 .0 .1) (g .last .1 .1 .1 .1 .1 .1 .0) (g .last .1 .1 .1 .1 .1 .1 .1 .0)
+          (o .take-over .last .1 .1 .1 .1 .1 .0) (s .args .work .now) (f .last .1 .1 .1 .1 .0) (s .pre .1 .1 .0 .1) (g .ensures .1 .0) (g .ensures .1 .1 .1 .0) (f .ensures)
+          ∙ ap (λ (x : List ℕ). laid (s .args .at .j * s .args .at .t) x (s .args .work .now))
+          (before-over (matrixIn (s .args .shape) (s .args .reads .now)) (s .args .at .j) (s .args .work .now) (o .take-over .last .1 .1 .1 .1 .1 .0) (taken o)),
+      g .ensures .1 .1 .1 .1,
+    )
 
 pub column-by-rule-spec : {M : Type 1} → statement M
 column-by-rule-spec =

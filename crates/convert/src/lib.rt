@@ -37,7 +37,8 @@ fn put_cell(out: &mut [u8], at: usize, letter: u8, weight: u32)
 // A read's cells, which have `size` bytes each where they are read.
 fn put_cells(cells: &[u8], size: usize, out: &mut [u8], at: usize)
     requires { ⌜ CellSize size × (at + 3 * (length (now cells) / size) ≤ length (now out)) ⌝ }
-    ensures { λ _. ⌜ now (out .exit) ≡ laid at (cellsBytes (run 0 (length (now (cells .entry)) / size) (cellAt size (now (cells .entry))))) (now (out .entry)) ⌝ }
+    ensures { λ _. ⌜ now (out .exit)
+        ≡ laid at (cellsBytes (run 0 (length (now (cells .entry)) / size) (cellAt size (now (cells .entry))))) (now (out .entry)) ⌝ }
 {
     let c = layout::cells_in(cells.len(), size);
     let mut i: usize = 0;
@@ -66,7 +67,8 @@ fn put_read(reads: &[u8], size: usize, at: usize, out: &mut [u8], to: usize)
 // How many of the reads have cells, and the bytes that they take.
 fn kept_in(shape: layout::Shape, reads: &[u8]) -> Kept
     requires { ⌜ Lawful shape (now reads) ⌝ }
-    ensures { λ r. ⌜ (r .count ≡ keptTo (matrixIn shape (now (reads .entry))) (shape .n)) × (r .bytes ≡ length (bytesTo (matrixIn shape (now (reads .entry))) (shape .n))) × (r .bytes ≤ 3149824) ⌝ }
+    ensures { λ r. ⌜ (r .count ≡ keptTo (matrixIn shape (now (reads .entry))) (shape .n))
+        × (r .bytes ≡ length (bytesTo (matrixIn shape (now (reads .entry))) (shape .n))) × (r .bytes ≤ 3149824) ⌝ }
 {
     let size = shape.size;
     let mut at: usize = 0;
@@ -124,7 +126,8 @@ fn put_head(out: &mut [u8], m: usize, n: usize, bytes: usize)
 // The version 2 block of the reads that have cells, where there is room for it.
 fn write(shape: layout::Shape, reads: &[u8], out: &mut [u8]) -> Outcome
     requires { ⌜ Lawful shape (now reads) ⌝ }
-    ensures { λ r. ⌜ conversionOf r (now (out .exit)) ≡ writing (blockBytes (withoutEmpty (matrixIn shape (now (reads .entry))))) (now (out .entry)) ⌝ }
+    ensures { λ r. ⌜ conversionOf r (now (out .exit))
+        ≡ writing (blockBytes (withoutEmpty (matrixIn shape (now (reads .entry))))) (now (out .entry)) ⌝ }
 {
     let k = kept_in(shape, reads);
     if out.len() < 9 + k.bytes {

@@ -37,3 +37,4 @@ pub mod Kept
 pub mod Written
 pub mod WrittenBytes
 pub mod Convert
+pub mod Heterozygous

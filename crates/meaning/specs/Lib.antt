@@ -16,3 +16,4 @@ pub mod Rule
 pub mod Opened
 pub mod Examples
 pub mod ConvertExamples
+pub mod HeterozygousExamples

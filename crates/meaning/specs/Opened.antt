@@ -5,7 +5,7 @@ use Rattle.meaning.specs.Active.{active, at, activeCount, mostActive, en
 use Rattle.meaning.specs.Closing.{closesAt, closingAt, closingBefore, closing, activeReads, otherReads}
 use Rattle.meaning.specs.Division.{leastOver, firstOver}
 use Rattle.meaning.specs.Charge.{against, W, chargeOf, costTo, leastCost, best}
-use Rattle.meaning.specs.Letters.{letterOf, tied, reported, haplotypes, isFlip, flips, disagreement, corrected, isEntry}
+use Rattle.meaning.specs.Letters.{letterOf, crossedCharge, crossedLetter, crossedChoice, tied, reported, haplotypes, isFlip, flips, disagreement, corrected, isEntry}
 use Rattle.meaning.specs.Table.{spread, value, entry, column, columnsTo, table}
 use Rattle.meaning.specs.Answer.{answerBytes, sidesOf, lettersOf, answer, answerSize}
 use Rattle.meaning.specs.Refusals.{short, otherVersion, otherSize, badCounts, badLength, retired, badPlace, badCell, isHole, badCells, readFault, readsFault, leftOver, crowded, workSize, refuse, orElse, headerRefusal, blockRefusal, matrixRefusal, refusal}
@@ -15,5 +15,5 @@ use Rattle.meaning.specs.Convert.{cellsBytes, readBytes, readsBytes, blo
 use Rattle.meaning.specs.Judge.{malformed, otherCounts, unknownMark, falseDashAt, falseDash, wrongCost, notLeast, otherAnswer, verdict, judges, rejects, judgingWith, judgingOn, judging}
 
 unfoldable pub opened : Unit {0}
-unfolding sumTo maxTo minTo run anyTo bigEndian bytesOf cellAt readOf readsOf afterReads matrixOf active at activeCount mostActive entries closesAt closingAt closingBefore closing activeReads otherReads leastOver firstOver against W chargeOf costTo leastCost best letterOf tied reported haplotypes isFlip flips disagreement corrected isEntry spread value entry column columnsTo table answerBytes sidesOf lettersOf answer answerSize short otherVersion otherSize badCounts badLength retired badPlace badCell isHole badCells readFault readsFault leftOver crowded workSize refuse orElse headerRefusal blockRefusal matrixRefusal refusal accepts refuses callWith callOn call filled oldNumber cellsBytes readBytes readsBytes blockBytes converted convertRefusal converting malformed otherCounts unknownMark falseDashAt falseDash wrongCost notLeast otherAnswer verdict judges rejects judgingWith judgingOn judging
+unfolding sumTo maxTo minTo run anyTo bigEndian bytesOf cellAt readOf readsOf afterReads matrixOf active at activeCount mostActive entries closesAt closingAt closingBefore closing activeReads otherReads leastOver firstOver against W chargeOf costTo leastCost best letterOf crossedCharge crossedLetter crossedChoice tied reported haplotypes isFlip flips disagreement corrected isEntry spread value entry column columnsTo table answerBytes sidesOf lettersOf answer answerSize short otherVersion otherSize badCounts badLength retired badPlace badCell isHole badCells readFault readsFault leftOver crowded workSize refuse orElse headerRefusal blockRefusal matrixRefusal refusal accepts refuses callWith callOn call filled oldNumber cellsBytes readBytes readsBytes blockBytes converted convertRefusal converting malformed otherCounts unknownMark falseDashAt falseDash wrongCost notLeast otherAnswer verdict judges rejects judgingWith judgingOn judging
 opened = tt

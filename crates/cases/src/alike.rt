@@ -1,4 +1,4 @@
-// Blocks whose reads all have the same number of cells.
+// Blocks whose reads all span the same columns.
 ghost use Prim.Native.Nat.{_≤_};
 use crate::generate::BOTH;
 use crate::generate::ONE;
@@ -22,13 +22,11 @@ pub fn heaviest() -> Shape {
     Shape::new(0, 0, 0).weights(255, 255).version(2, BOTH)
 }
 
-// So many reads of c cells: the first from a column on, each so many steps behind the one before it.
 fn put_reads(
     bytes: &mut Bytes,
     at: usize,
     reads: usize,
-    first: usize,
-    step: usize,
+    column: usize,
     c: usize,
     shape: Shape,
     state: &mut u32,
@@ -37,17 +35,15 @@ fn put_reads(
     ensures { λ r. ⌜ r ≤ 8192 ⌝ }
 {
     let mut end = at;
-    let mut column = first;
     let mut r: usize = 0;
     while r < reads {
         end = put_span(bytes, end, column, c, shape, state);
-        column = plus(column, step);
         r += 1;
     }
     end
 }
 
-// n reads of c cells, all from a column on; and how many bytes the block has.
+// n reads of c cells from a column on; and how many bytes the block has.
 pub fn put_alike(
     bytes: &mut Bytes,
     shape: Shape,
@@ -60,18 +56,7 @@ pub fn put_alike(
 {
     let mut state: u32 = 1;
     let start = put_header(bytes, shape.version, m, n);
-    let size = put_reads(bytes, start, n, column, 0, c, shape, &mut state);
-    put_size(bytes, size);
-    size
-}
-
-// n reads of one cell, each at a column of its own; and how many bytes the block has.
-pub fn put_stairs(bytes: &mut Bytes, shape: Shape, n: usize) -> usize
-    ensures { λ r. ⌜ r ≤ 8192 ⌝ }
-{
-    let mut state: u32 = 1;
-    let start = put_header(bytes, shape.version, n, n);
-    let size = put_reads(bytes, start, n, 0, 1, 1, shape, &mut state);
+    let size = put_reads(bytes, start, n, column, c, shape, &mut state);
     put_size(bytes, size);
     size
 }
@@ -82,7 +67,7 @@ pub fn put_gapped(bytes: &mut Bytes, shape: Shape, reads: usize) -> usize
 {
     let mut state: u32 = 1;
     let start = put_header(bytes, shape.version, 3, plus(reads, 1));
-    let last = put_reads(bytes, start, reads, 1, 0, 1, shape, &mut state);
+    let last = put_reads(bytes, start, reads, 1, 1, shape, &mut state);
     let size = put_span(bytes, last, 0, 3, shape.holes(8), &mut state);
     put_size(bytes, size);
     size

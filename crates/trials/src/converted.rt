@@ -8,7 +8,6 @@ use crate::report::Tally;
 use crate::report::convert_line;
 use crate::report::count;
 use cases::alike::put_alike;
-use cases::alike::put_stairs;
 use cases::alike::same;
 use cases::random::below;
 use exhaustive::converter::convert;
@@ -87,13 +86,8 @@ fn becomes(block: &[u8], bytes: &[u8], tally: &mut Tally) {
     around(block, bytes.len(), tally);
 }
 
-// P1; P9; 0:0 . 1:255 / c = 0 / . . 1:7 / c = 0; and nothing but c = 0 / c = 0 in three columns.
+// P9; 0:0 . 1:255 / c = 0 / . . 1:7 / c = 0; and nothing but c = 0 / c = 0 in three columns.
 fn examples(tally: &mut Tally) {
-    let p1 =
-        b"\x01\x00\x00\x00\x20\x00\x02\x00\x04\x00\x04\x00\x00\x00\x05\x00\x06\x00\x00\x01\x03\x00\x02\x00\x06\x00\x00\x01\x06\x01\x01\x00\x04\x00\x01\x00\x02";
-    let new_p1 =
-        b"\x02\x00\x00\x00\x26\x00\x02\x00\x04\x00\x05\x00\x00\x00\x00\x05\x00\x08\x00\x00\x01\x00\x03\x00\x00\x02\x00\x08\x00\x00\x01\x00\x06\x01\x00\x01\x00\x05\x00\x01\x00\x00\x02";
-    becomes(p1, new_p1, tally);
     let p9 = b"\x01\x00\x00\x00\x0e\x00\x01\x00\x02\x00\x02\x00\x00\x00\x04\x00\x00\x00\x07";
     let new_p9 = b"\x02\x00\x00\x00\x0b\x00\x01\x00\x01\x00\x05\x00\x00\x00\x00\x07";
     becomes(p9, new_p9, tally);
@@ -106,32 +100,15 @@ fn examples(tally: &mut Tally) {
     becomes(empty, b"\x02\x00\x00\x00\x04\x00\x03\x00\x00", tally);
 }
 
-// A block that is refused, in no room: nothing is asked of the room before the block has passed.
-fn refused(block: &[u8], number: usize, second: usize, tally: &mut Tally) {
-    numbers(block, 0, number, second, tally);
-}
-
-// Eight bytes; versions 0, 3 and 2, the last sound, then with a wrong length field; a wrong length field; m = 0.
-fn headers(tally: &mut Tally) {
-    refused(b"\x02\x00\x00\x00\x03\x00\x01\x00", 1, 0, tally);
-    refused(b"\x00\x00\x00\x00\x04\x00\x01\x00\x00", 2, 0, tally);
-    refused(b"\x03\x00\x00\x00\x04\x00\x01\x00\x00", 2, 0, tally);
-    refused(b"\x02\x00\x00\x00\x04\x00\x01\x00\x00", 2, 0, tally);
-    refused(b"\x02\x00\x00\x00\x05\x00\x01\x00\x00", 2, 0, tally);
-    refused(b"\x01\x00\x00\x00\x05\x00\x01\x00\x00", 3, 0, tally);
-    refused(b"\x01\x00\x00\x00\x04\x00\x00\x00\x00", 4, 0, tally);
-}
-
-// L = 3; an empty read at column 7, the second; letter 3; a byte behind.
-fn reads(tally: &mut Tally) {
-    let odd = b"\x01\x00\x00\x00\x09\x00\x01\x00\x01\x00\x03\x00\x00\x00";
-    refused(odd, 5, 0, tally);
+// In no room, since nothing is asked of the room before the block has passed: eight bytes; version 2, sound, then with a wrong length
+// field; a wrong length field; the second read empty at column 7.
+fn refusals(tally: &mut Tally) {
+    numbers(b"\x02\x00\x00\x00\x03\x00\x01\x00", 0, 1, 0, tally);
+    numbers(b"\x02\x00\x00\x00\x04\x00\x01\x00\x00", 0, 2, 0, tally);
+    numbers(b"\x02\x00\x00\x00\x05\x00\x01\x00\x00", 0, 2, 0, tally);
+    numbers(b"\x01\x00\x00\x00\x05\x00\x01\x00\x00", 0, 3, 0, tally);
     let seven = b"\x01\x00\x00\x00\x0e\x00\x01\x00\x02\x00\x04\x00\x00\x00\x01\x00\x02\x00\x07";
-    refused(seven, 6, 1, tally);
-    let letter = b"\x01\x00\x00\x00\x0a\x00\x01\x00\x01\x00\x04\x00\x00\x03\x01";
-    refused(letter, 7, 0, tally);
-    let behind = b"\x01\x00\x00\x00\x05\x00\x01\x00\x00\x00";
-    refused(behind, 8, 0, tally);
+    numbers(seven, 0, 6, 1, tally);
 }
 
 fn needed(b: Bytes, size: usize, bytes: usize, tally: &mut Tally)
@@ -147,27 +124,19 @@ fn alike(m: usize, n: usize, c: usize, bytes: usize, tally: &mut Tally) {
     needed(b, size, bytes, tally);
 }
 
-// The most reads, all kept.
-fn stairs(tally: &mut Tally) {
-    let mut b = [0u8; 8192];
-    let size = put_stairs(&mut b, same(1), 1024);
-    needed(b, size, 7177, tally);
-}
-
-// The most reads, none kept; the most cells of a read; as many bytes as a block here has room for; more active reads than are solved.
+// The most reads, none kept, then all, which are more active reads than are solved; the most cells of a read; as many bytes as a block
+// here has room for.
 fn sizes(tally: &mut Tally) {
     alike(1, 1024, 0, 9, tally);
+    alike(1, 1024, 1, 7177, tally);
     alike(1024, 1, 1024, 3085, tally);
     alike(680, 4, 680, 8185, tally);
-    alike(1, 13, 1, 100, tally);
-    stairs(tally);
 }
 
 pub fn run(all: &mut Tally) {
     let mut tally = [0usize; 64];
     examples(&mut tally);
-    headers(&mut tally);
-    reads(&mut tally);
+    refusals(&mut tally);
     sizes(&mut tally);
     convert_line(b"limits", &tally, all);
 }

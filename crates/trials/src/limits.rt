@@ -7,7 +7,6 @@ use crate::stated::against_stated;
 use cases::alike::heaviest;
 use cases::alike::put_alike;
 use cases::alike::put_gapped;
-use cases::alike::put_stairs;
 use cases::alike::same;
 use cases::generate::Shape;
 use exhaustive::refusals::Numbers;
@@ -58,33 +57,8 @@ fn all_empty(b: Bytes, size: usize, tally: &mut Tally)
     against_stated(b"limits", &b[..size], 0, 0, &marks, &[0], tally);
 }
 
-// 1,024 reads of one cell, each alone at its column: every side is 0, and side 1 has no letter.
-fn all_alone(b: Bytes, size: usize, marks: &[u8; 3072], tally: &mut Tally)
-    requires { ⌜ size ≤ 8192 ⌝ }
-{
-    against_stated(b"limits", &b[..size], 0, 0, marks, &[0; 1024], tally);
-}
-
-// The letters of haplotype 2.
-fn put_dashes(marks: &mut [u8; 3072]) {
-    let mut i: usize = 2048;
-    while i < 3072 {
-        marks[i] = b'-';
-        i += 1;
-    }
-}
-
 // 1,024 reads, more than the exhaustive solver has rows for.
-fn most_reads(shape: Shape, tally: &mut Tally) {
-    let mut b = [0u8; 8192];
-    let size = put_stairs(&mut b, shape, 1024);
-    let mut marks = [b'0'; 3072];
-    put_dashes(&mut marks);
-    all_alone(b, size, &marks, tally);
-}
-
-// The same without a cell, in version 1.
-fn most_empty(tally: &mut Tally) {
+fn most_reads(tally: &mut Tally) {
     let mut b = [0u8; 8192];
     let size = put_alike(&mut b, same(1), 1, 1024, 0, 0);
     all_empty(b, size, tally);
@@ -117,36 +91,22 @@ fn lengths(tally: &mut Tally) {
     numbers(short, 5, tally);
 }
 
-// A refusal of a read.
-fn refused(block: &[u8], number: usize, read: usize, tally: &mut Tally) {
-    against_numbers(b"limits", block, ample(), given(number, read), tally);
-}
-
-// An empty read of version 2 at column 0 and at column 7, behind a sound read, before an L of 1 and before a byte too many; 1,024 of them.
+// Empty reads of version 2: 1,024, one at column 7, and one behind a sound read. What comes before 38: one that lacks a byte, and a read at
+// a wrong column before one. And version 1, at column 7.
 fn empties(tally: &mut Tally) {
-    let empty = b"\x02\x00\x00\x00\x08\x00\x01\x00\x01\x00\x02\x00\x00";
-    refused(empty, 38, 0, tally);
+    alike(same(2), 1, 1024, 0, 0, ample(), given(38, 0), tally);
     let seven = b"\x02\x00\x00\x00\x08\x00\x01\x00\x01\x00\x02\x00\x07";
-    refused(seven, 38, 0, tally);
+    numbers(seven, 38, tally);
     let second =
         b"\x02\x00\x00\x00\x0f\x00\x01\x00\x02\x00\x05\x00\x00\x00\x00\x01\x00\x02\x00\x00";
-    refused(second, 38, 1, tally);
-    let first = b"\x02\x00\x00\x00\x0a\x00\x01\x00\x02\x00\x02\x00\x00\x00\x01";
-    refused(first, 38, 0, tally);
-    let behind = b"\x02\x00\x00\x00\x09\x00\x01\x00\x01\x00\x02\x00\x00\x00";
-    refused(behind, 38, 0, tally);
-    alike(same(2), 1, 1024, 0, 0, ample(), given(38, 0), tally);
-}
-
-// What comes before 38: an empty read that lacks a byte, and a read at a wrong column before an empty one. Version 1 has no 38.
-fn before_empties(tally: &mut Tally) {
+    against_numbers(b"limits", second, ample(), given(38, 1), tally);
     let cut = b"\x02\x00\x00\x00\x07\x00\x01\x00\x01\x00\x02\x00";
-    refused(cut, 5, 0, tally);
+    numbers(cut, 5, tally);
     let column =
         b"\x02\x00\x00\x00\x0f\x00\x01\x00\x02\x00\x05\x00\x01\x00\x00\x01\x00\x02\x00\x00";
-    refused(column, 6, 0, tally);
+    numbers(column, 6, tally);
     let old = b"\x01\x00\x00\x00\x08\x00\x01\x00\x01\x00\x02\x00\x07";
-    refused(old, 6, 0, tally);
+    numbers(old, 6, tally);
 }
 
 // One read of version 2 with three cells, a hole between the ends: without weight, of weight 1, of weight 256.
@@ -201,7 +161,6 @@ fn weights(tally: &mut Tally) {
 fn in_version(version: usize, tally: &mut Tally) {
     let s = same(version);
     sizes(s, tally);
-    most_reads(s, tally);
     columns(s, tally);
     rooms(s, tally);
 }
@@ -211,9 +170,8 @@ pub fn run(all: &mut Tally) {
     headers(&mut tally);
     lengths(&mut tally);
     empties(&mut tally);
-    before_empties(&mut tally);
     holes(&mut tally);
-    most_empty(&mut tally);
+    most_reads(&mut tally);
     in_version(1, &mut tally);
     in_version(2, &mut tally);
     weights(&mut tally);

@@ -4,19 +4,16 @@ use Rattle.cases.proofs.alike.put_reads.Statement.{statement}
 use Rattle.cases.proofs.alike.put_reads.Tie as tie
 
 abbrev Inv-loop : tie.InvT-loop
-Inv-loop bytes₀ at reads first step c shape state₀ end₀ column₀ r₀ bytes state end column r = (end ≤ 8192) × (r ≤ reads)
+Inv-loop bytes₀ at reads column c shape state₀ end₀ r₀ bytes state end r = (end ≤ 8192) × (r ≤ reads)
 
 abbrev μ-loop : tie.MeasureT-loop
-μ-loop bytes₀ at reads first step c shape state₀ end₀ column₀ r₀ bytes state end column r = reads - r
+μ-loop bytes₀ at reads column c shape state₀ end₀ r₀ bytes state end r = reads - r
 
 loop-holds : tie.Need-loop-holds Inv-loop μ-loop
 loop-holds c = search needs
 
 put-span-requires : tie.Need-put-span-requires Inv-loop μ-loop
 put-span-requires c κs = search needs
-
-plus-requires : tie.Need-plus-requires Inv-loop μ-loop
-plus-requires c κs = search needs
 
 add-r : tie.Need-add-r Inv-loop μ-loop
 add-r c = search needs
@@ -38,7 +35,6 @@ put-reads-spec =
     μ-loop
     loop-holds
     put-span-requires
-    plus-requires
     add-r
     loop-less
     loop-again

@@ -1,7 +1,7 @@
 // The converter: a version 1 block, written as version 2 without its reads that have no cells.
 ghost use mathlib.Core.Path.{_≡_};
 ghost use mathlib.Core.List.{_∷_};
-ghost use Prim.Native.Nat.{_+_, _*_, _-_, _/_, _≤_, _<_};
+ghost use Prim.Native.Nat.{_+_, _*_, _-_, _/_, _≤_};
 ghost use lib.ListN.{length, drop};
 ghost use Rattle.meaning.specs.Numbers.{run, word, bytesOf};
 ghost use Rattle.meaning.specs.Block.{cellAt, readOf};

@@ -1,5 +1,5 @@
 -- Where the reads of a list stand.
-use Prim.Native.Nat.{ℕ, suc, _+_, _<_}
+use Prim.Native.Nat.{ℕ, suc, _<_}
 use lib.ListN.{length, getD, take, drop}
 use lib.Seq.{split-at}
 use mathlib.Core.Bool.{Bool, true, false, _||_, true≢false, or-true}

@@ -1,6 +1,5 @@
 -- The reads that lie in a part of bytes one after the other.
 use Prim.Native.Nat.{ℕ, _≤_, _<_}
-use mathlib.Core.Path.{_≡_}
 use mathlib.Core.List.{List}
 use Rattle.meaning.specs.Block.{Matrix, afterReads, matrixFrom}
 use Rattle.meaning.proofs.Formed.{Sound}

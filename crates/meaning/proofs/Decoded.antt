@@ -1,5 +1,5 @@
 -- The output of an accepted call decodes to the answer: cost and number of flips fit their fields, and each byte of the block is known.
-use Prim.Native.Nat.{ℕ, zero, suc, suc-le-suc, _+_, _*_, _-_, _≤_, _<_, _^_}
+use Prim.Native.Nat.{ℕ, _+_, _*_, _≤_, _<_, _^_}
 use lib.ListN.{length, getD, drop, List·getD-append}
 use mathlib.Core.Bool.{Bool, true, false}
 use mathlib.Core.List.{List}

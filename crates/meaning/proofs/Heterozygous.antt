@@ -1,5 +1,5 @@
 -- The all-heterozygous mode is fair, so the demands hold of it; and its cost is never below the general one.
-use Prim.Native.Nat.{ℕ, _+_, _≤_, min}
+use Prim.Native.Nat.{_+_, _≤_, min}
 use borrow.Author.Tests.{ltb-true, ltb-false}
 use lib.Dec.{ltb}
 use mathlib.Core.Bool.{Bool, true, false, not, false≢true, Bool·beq}

@@ -1,6 +1,6 @@
 // The reads of a block, one after the other: the checks 5, 38, 6 and 7, and where each read lies.
 ghost use mathlib.Core.Path.{_≡_};
-ghost use Prim.Native.Nat.{_+_, _*_, _≤_, _<_};
+ghost use Prim.Native.Nat.{_+_, _*_, _≤_};
 ghost use lib.ListN.{length, drop};
 ghost use Rattle.meaning.specs.Refusals.{readsFault};
 ghost use Rattle.layout.specs.Reads.{CellSize, Lawful};

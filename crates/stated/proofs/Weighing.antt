@@ -4,12 +4,10 @@ use lib.Dec.{eqb}
 use mathlib.Core.Bool.{true, false, not}
 use mathlib.Core.List.{List}
 use mathlib.Core.Path.{_≡_, refl, sym, ap, ap₂, _∙_}
-use native.Mathlib.Nat.{le-trans}
 use native.Mathlib.Omega.{arith}
 use Rattle.meaning.specs.Numbers.{sumTo}
 use Rattle.meaning.specs.Block.{Matrix}
-use Rattle.meaning.specs.Active.{count, read, at}
-use Rattle.meaning.specs.Charge.{against, W}
+use Rattle.meaning.specs.Charge.{W}
 use Rattle.meaning.specs.Letters.{disagreement}
 use Rattle.meaning.specs.Judge.{statedCost, statedDivision, statedHaplotypes, wrongCost}
 use Rattle.meaning.proofs.Totals.{sum-ext}

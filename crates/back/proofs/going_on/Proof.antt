@@ -10,8 +10,6 @@ use Rattle.fold.proofs.Count.{count-none}
 use Rattle.back.proofs.GoingOn.{goesOn, closes-more, all-go-on}
 use Rattle.back.proofs.going_on.Statement.{statement}
 use Rattle.back.proofs.going_on.Tie as tie
-use Rattle.layout.proofs.end_of.Reads as end-of-reads
-use Rattle.plain.proofs.index.Reads as index-reads
 
 -- the end of the i-th read of the list
 abbrev ends : List ℕ → List ℕ → ℕ → ℕ

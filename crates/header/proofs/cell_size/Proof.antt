@@ -1,5 +1,5 @@
-use mathlib.Core.Path.{_≡_, refl, sym}
-use borrow.Author.Tests.{eq-eqb, ne-eqb}
+use mathlib.Core.Path.{sym}
+use borrow.Author.Tests.{ne-eqb}
 use Rattle.header.specs.Header.{sizeOf}
 use Rattle.header.proofs.cell_size.Statement.{statement}
 use Rattle.header.proofs.cell_size.Tie as tie

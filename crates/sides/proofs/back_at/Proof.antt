@@ -11,10 +11,6 @@ use Rattle.sides.proofs.Back.{going-is, settled}
 use Rattle.sides.proofs.WayBack.{going-fits, settle-fits}
 use Rattle.sides.proofs.back_at.Statement.{statement}
 use Rattle.sides.proofs.back_at.Tie as tie
-use Rattle.back.proofs.going_on.Reads as going-on-reads
-use Rattle.back.proofs.settle.Reads as settle-reads
-use Rattle.plain.proofs.entries.Reads as entries-reads
-use Rattle.plain.proofs.index.Reads as index-reads
 
 -- the plain numbers of column j
 sizes : (c : tie.Start) → ColumnSizes (c .args .shape) (c .args .reads .now) (c .args .places .now) (c .args .lists .now) (c .pre .0) (c .args .j) (c .args .t)

@@ -2,15 +2,11 @@ use borrow.Author.Needs.{needs}
 use native.Mathlib.Omega.{arith}
 use Prim.Native.Nat.{ℕ, _-_, _≤_, _<_}
 use mathlib.Core.Path.{sym, ap, _∙_, subst}
-use lib.ListN.{length}
 use Rattle.meaning.specs.Active.{used}
 use Rattle.table.proofs.Sizes.{ColumnSizes, column-sizes}
 use Rattle.sides.proofs.WayBack.{last-column, least-fits, least-is}
 use Rattle.sides.proofs.least_last.Statement.{statement}
 use Rattle.sides.proofs.least_last.Tie as tie
-use Rattle.back.proofs.least_from.Reads as least-from-reads
-use Rattle.plain.proofs.entries.Reads as entries-reads
-use Rattle.plain.proofs.index.Reads as index-reads
 
 -- there is a last column
 last : (c : tie.Start) → (0 < c .args .shape .m) × (c .args .shape .m - 1 < c .args .shape .m)

@@ -11,7 +11,6 @@ use Rattle.layout.proofs.Laws.{count-is}
 use Rattle.sides.proofs.WayBack.{back-start, back-turn, back-end}
 use Rattle.sides.proofs.way_back.Statement.{statement}
 use Rattle.sides.proofs.way_back.Tie as tie
-use Rattle.sides.proofs.back_at.Reads as back-at-reads
 
 abbrev Inv-loop : tie.InvT-loop
 Inv-loop shape reads places lists t work sides₀ j₀ sides j =

@@ -1,10 +1,7 @@
 use borrow.Author.Needs.{needs}
-use native.Mathlib.Omega.{arith}
 use mathlib.Core.Path.{sym, _∙_}
 use Rattle.sides.proofs.write_sides.Statement.{statement}
 use Rattle.sides.proofs.write_sides.Tie as tie
-use Rattle.plain.proofs.clear_bytes.Reads as clear-bytes-reads
-use Rattle.sides.proofs.way_back.Reads as way-back-reads
 
 clear-bytes-requires : tie.Need-clear-bytes-requires
 clear-bytes-requires c κs = search needs

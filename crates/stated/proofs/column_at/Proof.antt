@@ -3,7 +3,6 @@ use native.Mathlib.Omega.{arith}
 use Rattle.stated.proofs.AtColumn.{stands}
 use Rattle.stated.proofs.column_at.Statement.{statement}
 use Rattle.stated.proofs.column_at.Tie as tie
-use Rattle.letters.proofs.sums.Reads as sums-reads
 
 sums-requires : tie.Need-sums-requires
 sums-requires c κs = omega (arith, (c .before .before .before) .pre .0 .room, (c .before .before .before) .pre .1 .1)

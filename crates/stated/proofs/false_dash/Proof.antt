@@ -9,8 +9,6 @@ use Rattle.stated.proofs.Searched.{Searched, searched-none, searched-al
 use Rattle.stated.proofs.AtColumn.{dash-at, dash-columns, eitherSide, found-first, found-second, found-neither}
 use Rattle.stated.proofs.false_dash.Statement.{statement}
 use Rattle.stated.proofs.false_dash.Tie as tie
-use Rattle.stated.proofs.column_at.Reads as column-at-reads
-use Rattle.stated.proofs.dash.Reads as dash-reads
 
 abbrev Inv-loop : tie.InvT-loop
 Inv-loop shape reads tally answer j₀ j = Searched (shape .m) (eitherSide (falseDashAt (matrixIn shape reads) answer)) j

@@ -1,9 +1,7 @@
 use borrow.Author.Needs.{needs}
-use native.Mathlib.Omega.{arith}
 use Rattle.stated.proofs.Marks.{other-reads, same-reads}
 use Rattle.stated.proofs.other_counts.Statement.{statement}
 use Rattle.stated.proofs.other_counts.Tie as tie
-use Rattle.layout.proofs.word_at.Reads as word-at-reads
 
 word-at-requires : tie.Need-word-at-requires
 word-at-requires c κs = search needs

@@ -8,8 +8,6 @@ use Rattle.stated.proofs.Searched.{Searched, searched-none, searched-al
 use Rattle.stated.proofs.AtColumn.{other-at, other-columns, eitherSide, found-first, found-second, found-neither}
 use Rattle.stated.proofs.other_letters.Statement.{statement}
 use Rattle.stated.proofs.other_letters.Tie as tie
-use Rattle.stated.proofs.column_at.Reads as column-at-reads
-use Rattle.stated.proofs.other_letter.Reads as other-letter-reads
 
 abbrev Inv-loop : tie.InvT-loop
 Inv-loop shape reads tally answer j₀ j = Searched (shape .m) (eitherSide (otherLetterAt (matrixIn shape reads) answer)) j

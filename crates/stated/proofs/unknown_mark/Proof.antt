@@ -1,9 +1,7 @@
 use borrow.Author.Needs.{needs}
-use native.Mathlib.Omega.{arith}
 use Rattle.stated.proofs.Marks.{unknown-side, by-letters}
 use Rattle.stated.proofs.unknown_mark.Statement.{statement}
 use Rattle.stated.proofs.unknown_mark.Tie as tie
-use Rattle.stated.proofs.any_above.Reads as any-above-reads
 
 add-a : tie.Need-add-a
 add-a c = search needs

@@ -6,8 +6,6 @@ use Rattle.layout.specs.Reads.{matrixIn}
 use Rattle.stated.proofs.Weighing.{WeighedTo, weight-small, weighed-none, weighed-more, weighed-all}
 use Rattle.stated.proofs.weight.Statement.{statement}
 use Rattle.stated.proofs.weight.Tie as tie
-use Rattle.stated.proofs.against.Reads as against-reads
-use Rattle.stated.proofs.column_at.Reads as column-at-reads
 
 abbrev Inv-loop : tie.InvT-loop
 Inv-loop shape reads tally answer total₀ j₀ total j = WeighedTo (matrixIn shape reads) answer (shape .m) total j

@@ -1,10 +1,7 @@
 use borrow.Author.Needs.{needs}
-use native.Mathlib.Omega.{arith}
 use Rattle.stated.proofs.Weighing.{cost-told}
 use Rattle.stated.proofs.wrong_cost.Statement.{statement}
 use Rattle.stated.proofs.wrong_cost.Tie as tie
-use Rattle.layout.proofs.long_at.Reads as long-at-reads
-use Rattle.stated.proofs.weight.Reads as weight-reads
 
 weight-requires : tie.Need-weight-requires
 weight-requires c κs = search needs

@@ -1,5 +1,4 @@
 use borrow.Author.Needs.{needs}
-use native.Mathlib.Omega.{arith}
 use mathlib.Core.Path.{_≡_, sym, _∙_}
 use Rattle.meaning.specs.Judge.{otherCounts}
 use Rattle.layout.specs.Reads.{matrixIn}
@@ -9,10 +8,6 @@ use Rattle.stated.proofs.Marks.{seventeen, same-counts}
 use Rattle.verdict.proofs.Verdicts.{counts-told, gives-50, gives-51, gives-52, is-marked}
 use Rattle.verdict.proofs.judged.Statement.{statement}
 use Rattle.verdict.proofs.judged.Tie as tie
-use Rattle.stated.proofs.malformed.Reads as malformed-reads
-use Rattle.stated.proofs.other_counts.Reads as other-counts-reads
-use Rattle.stated.proofs.unknown_mark.Reads as unknown-mark-reads
-use Rattle.verdict.proofs.weighed.Reads as weighed-reads
 
 -- other n or m
 counts : (c : tie.After-other-counts) → let a = c .before .before .before .before .before .before .before .before .before .before .args in c .other-counts .result ≡ otherCounts (matrixIn (a .shape) (a .reads .now)) (a .answer .now)

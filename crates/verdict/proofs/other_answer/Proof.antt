@@ -11,9 +11,6 @@ use Rattle.stated.proofs.Ours.{other-sides-told, same-sides-told}
 use Rattle.verdict.proofs.Tabled.{our-sides}
 use Rattle.verdict.proofs.other_answer.Statement.{statement}
 use Rattle.verdict.proofs.other_answer.Tie as tie
-use Rattle.sides.proofs.write_sides.Reads as write-sides-reads
-use Rattle.stated.proofs.other_letters.Reads as other-letters-reads
-use Rattle.stated.proofs.other_sides.Reads as other-sides-reads
 
 -- what the way back gives are our sides
 ours : (c : tie.After-write-sides) → let a = c .before .before .before .before .before .before .before .before .before .args in let M = matrixIn (a .shape) (a .reads .now) in c .write-sides .last .1 .1 .1 .1 .1 .1 .0 ≡ sidesOf M (best charge M)

@@ -1,7 +1,6 @@
 use borrow.Author.Needs.{needs}
 use native.Mathlib.Omega.{arith}
-use Prim.Native.Nat.{_≤_}
-use mathlib.Core.Path.{_≡_, _∙_}
+use mathlib.Core.Path.{_≡_}
 use Rattle.meaning.specs.Charge.{charge, leastCost}
 use Rattle.layout.specs.Reads.{matrixIn}
 use Rattle.layout.proofs.Laws.{ready-thin}
@@ -12,13 +11,6 @@ use Rattle.verdict.proofs.Tabled.{least-cost}
 use Rattle.verdict.proofs.Verdicts.{gives-53, gives-54, gives-55, is-least, gives-56, gives-57}
 use Rattle.verdict.proofs.weighed.Statement.{statement}
 use Rattle.verdict.proofs.weighed.Tie as tie
-use Rattle.layout.proofs.long_at.Reads as long-at-reads
-use Rattle.plain.proofs.place.Reads as place-reads
-use Rattle.sides.proofs.least_last.Reads as least-last-reads
-use Rattle.stated.proofs.false_dash.Reads as false-dash-reads
-use Rattle.stated.proofs.wrong_cost.Reads as wrong-cost-reads
-use Rattle.tally.proofs.tally.Reads as tally-reads
-use Rattle.verdict.proofs.other_answer.Reads as other-answer-reads
 
 -- the tally is that of the answer's sides
 tallied : (c : tie.After-tally) → let a = c .before .before .before .before .before .before .before .before .before .before .before .args in StatedTally (matrixIn (a .shape) (a .reads .now)) (a .answer .now) (c .tally .last .1 .1 .1 .1 .0)

@@ -8,7 +8,7 @@ use Rattle.meaning.specs.Answer.{answerBytes}
 use Rattle.meaning.specs.Call.{call}
 use Rattle.meaning.specs.Convert.{Conversion, converting}
 use Rattle.meaning.specs.Opened.{opened}
-use Rattle.meaning.specs.Examples.{All}
+use Rattle.meaning.specs.Examples.{All, p9}
 
 pub record ConvertExample : Type 0 where
   pub block : List ℕ
@@ -22,7 +22,7 @@ Gives s = converting (s .block) (replicate (s .room) 7) ≡ s .gives
 abbrev pub c9 : ConvertExample
 c9 =
     record {
-      block = 1 ∷ 0 ∷ 0 ∷ 0 ∷ 14 ∷ 0 ∷ 1 ∷ 0 ∷ 2 ∷ 0 ∷ 2 ∷ 0 ∷ 0 ∷ 0 ∷ 4 ∷ 0 ∷ 0 ∷ 0 ∷ 7 ∷ [];
+      block = p9 .block;
       room = 17;
       gives = record { number = 0; second = 0; out = 2 ∷ 0 ∷ 0 ∷ 0 ∷ 11 ∷ 0 ∷ 1 ∷ 0 ∷ 1 ∷ 0 ∷ 5 ∷ 0 ∷ 0 ∷ 0 ∷ 0 ∷ 7 ∷ 7 ∷ [] };
     }
@@ -130,7 +130,7 @@ remain =
 abbrev pub no-room : ConvertExample
 no-room =
     record {
-      block = 1 ∷ 0 ∷ 0 ∷ 0 ∷ 14 ∷ 0 ∷ 1 ∷ 0 ∷ 2 ∷ 0 ∷ 2 ∷ 0 ∷ 0 ∷ 0 ∷ 4 ∷ 0 ∷ 0 ∷ 0 ∷ 7 ∷ [];
+      block = p9 .block;
       room = 15;
       gives = record { number = 39; second = 16; out = replicate 15 7 };
     }

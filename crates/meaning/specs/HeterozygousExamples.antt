@@ -6,7 +6,7 @@ use lib.ListN.{length, replicate}
 use Rattle.meaning.specs.Block.{latest}
 use Rattle.meaning.specs.Letters.{heterozygous}
 use Rattle.meaning.specs.Call.{callWith}
-use Rattle.meaning.specs.Examples.{Example, answer-of, All}
+use Rattle.meaning.specs.Examples.{Example, answer-of, All, p1, p2, p3, p4, p5, p6, p7, p8, p9}
 use Rattle.meaning.specs.Opened.{opened}
 
 abbrev pub HoldsHeterozygous : Example → Type 0
@@ -18,7 +18,7 @@ HoldsHeterozygous s =
 abbrev pub h1 : Example
 h1 =
     record {
-      block = 1 ∷ 0 ∷ 0 ∷ 0 ∷ 32 ∷ 0 ∷ 2 ∷ 0 ∷ 4 ∷ 0 ∷ 4 ∷ 0 ∷ 0 ∷ 0 ∷ 5 ∷ 0 ∷ 6 ∷ 0 ∷ 0 ∷ 1 ∷ 3 ∷ 0 ∷ 2 ∷ 0 ∷ 6 ∷ 0 ∷ 0 ∷ 1 ∷ 6 ∷ 1 ∷ 1 ∷ 0 ∷ 4 ∷ 0 ∷ 1 ∷ 0 ∷ 2 ∷ [];
+      block = p1 .block;
       cost = 1;
       flips = 1;
       sides = 1 ∷ 0 ∷ 0 ∷ 0 ∷ [];
@@ -31,7 +31,7 @@ h1 =
 abbrev pub h2 : Example
 h2 =
     record {
-      block = 1 ∷ 0 ∷ 0 ∷ 0 ∷ 34 ∷ 0 ∷ 3 ∷ 0 ∷ 3 ∷ 0 ∷ 8 ∷ 0 ∷ 0 ∷ 0 ∷ 4 ∷ 2 ∷ 0 ∷ 1 ∷ 3 ∷ 0 ∷ 8 ∷ 0 ∷ 0 ∷ 0 ∷ 5 ∷ 0 ∷ 5 ∷ 0 ∷ 5 ∷ 0 ∷ 8 ∷ 0 ∷ 0 ∷ 1 ∷ 5 ∷ 1 ∷ 5 ∷ 1 ∷ 5 ∷ [];
+      block = p2 .block;
       cost = 3;
       flips = 1;
       sides = 0 ∷ 0 ∷ 1 ∷ [];
@@ -44,7 +44,7 @@ h2 =
 abbrev pub h3 : Example
 h3 =
     record {
-      block = 1 ∷ 0 ∷ 0 ∷ 0 ∷ 4 ∷ 0 ∷ 1 ∷ 0 ∷ 0 ∷ [];
+      block = p3 .block;
       cost = 0;
       flips = 0;
       sides = [];
@@ -57,7 +57,7 @@ h3 =
 abbrev pub h4 : Example
 h4 =
     record {
-      block = 1 ∷ 0 ∷ 0 ∷ 0 ∷ 10 ∷ 0 ∷ 1 ∷ 0 ∷ 1 ∷ 0 ∷ 4 ∷ 0 ∷ 0 ∷ 0 ∷ 7 ∷ [];
+      block = p4 .block;
       cost = 0;
       flips = 0;
       sides = 0 ∷ [];
@@ -70,7 +70,7 @@ h4 =
 abbrev pub h5 : Example
 h5 =
     record {
-      block = 1 ∷ 0 ∷ 0 ∷ 0 ∷ 16 ∷ 0 ∷ 1 ∷ 0 ∷ 2 ∷ 0 ∷ 4 ∷ 0 ∷ 0 ∷ 0 ∷ 5 ∷ 0 ∷ 4 ∷ 0 ∷ 0 ∷ 1 ∷ 5 ∷ [];
+      block = p5 .block;
       cost = 0;
       flips = 0;
       sides = 0 ∷ 1 ∷ [];
@@ -83,7 +83,7 @@ h5 =
 abbrev pub h6 : Example
 h6 =
     record {
-      block = 1 ∷ 0 ∷ 0 ∷ 0 ∷ 16 ∷ 0 ∷ 1 ∷ 0 ∷ 2 ∷ 0 ∷ 4 ∷ 0 ∷ 0 ∷ 0 ∷ 3 ∷ 0 ∷ 4 ∷ 0 ∷ 0 ∷ 0 ∷ 3 ∷ [];
+      block = p6 .block;
       cost = 0;
       flips = 0;
       sides = 0 ∷ 0 ∷ [];
@@ -96,7 +96,7 @@ h6 =
 abbrev pub h7 : Example
 h7 =
     record {
-      block = 1 ∷ 0 ∷ 0 ∷ 0 ∷ 16 ∷ 0 ∷ 1 ∷ 0 ∷ 2 ∷ 0 ∷ 4 ∷ 0 ∷ 0 ∷ 0 ∷ 0 ∷ 0 ∷ 4 ∷ 0 ∷ 0 ∷ 1 ∷ 0 ∷ [];
+      block = p7 .block;
       cost = 0;
       flips = 1;
       sides = 0 ∷ 0 ∷ [];
@@ -109,7 +109,7 @@ h7 =
 abbrev pub h8 : Example
 h8 =
     record {
-      block = 1 ∷ 0 ∷ 0 ∷ 0 ∷ 10 ∷ 0 ∷ 2 ∷ 0 ∷ 1 ∷ 0 ∷ 4 ∷ 0 ∷ 0 ∷ 1 ∷ 4 ∷ [];
+      block = p8 .block;
       cost = 0;
       flips = 0;
       sides = 0 ∷ [];
@@ -122,7 +122,7 @@ h8 =
 abbrev pub h9 : Example
 h9 =
     record {
-      block = 1 ∷ 0 ∷ 0 ∷ 0 ∷ 14 ∷ 0 ∷ 1 ∷ 0 ∷ 2 ∷ 0 ∷ 2 ∷ 0 ∷ 0 ∷ 0 ∷ 4 ∷ 0 ∷ 0 ∷ 0 ∷ 7 ∷ [];
+      block = p9 .block;
       cost = 0;
       flips = 0;
       sides = 0 ∷ 0 ∷ [];

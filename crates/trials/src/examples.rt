@@ -5,6 +5,8 @@ use crate::held::against_search;
 use crate::report::Tally;
 use crate::report::line;
 use crate::stated::against_stated;
+use cases::examples::P1_HEAVY;
+use cases::examples::P1_VERSION_1;
 use cases::examples::put_one;
 use cases::examples::put_p1;
 use cases::examples::put_p2;
@@ -38,20 +40,24 @@ fn p1(version: usize, tally: &mut Tally, searched: &mut Tally) {
     example(b, size, 1, 1, b"1000 10 0-", &table, tally, searched);
 }
 
-// P1 as its 37 bytes.
+// The bytes of document 01.
 fn p1_bytes(tally: &mut Tally) {
-    let block =
-        b"\x01\x00\x00\x00\x20\x00\x02\x00\x04\x00\x04\x00\x00\x00\x05\x00\x06\x00\x00\x01\x03\x00\x02\x00\x06\x00\x00\x01\x06\x01\x01\x00\x04\x00\x01\x00\x02";
     let table = [5, 3, 0, 5, 1, 3, 1, 4];
-    against_stated(b"examples", block, 1, 1, b"1000 10 0-", &table, tally);
+    against_stated(
+        b"examples",
+        &P1_VERSION_1,
+        1,
+        1,
+        b"1000 10 0-",
+        &table,
+        tally,
+    );
 }
 
-// P1 with its weights in the higher of two bytes, so 256 times as heavy.
+// Every weight is 256 times as heavy, so each sum is.
 fn p1_heavy(tally: &mut Tally) {
-    let block =
-        b"\x02\x00\x00\x00\x26\x00\x02\x00\x04\x00\x05\x00\x00\x00\x05\x00\x00\x08\x00\x00\x01\x03\x00\x00\x02\x00\x00\x08\x00\x00\x01\x06\x00\x01\x01\x00\x00\x05\x00\x01\x00\x02\x00";
     let table = [1280, 768, 0, 1280, 256, 768, 256, 1024];
-    against_stated(b"examples", block, 256, 1, b"1000 10 0-", &table, tally);
+    against_stated(b"examples", &P1_HEAVY, 256, 1, b"1000 10 0-", &table, tally);
 }
 
 fn p2(version: usize, tally: &mut Tally, searched: &mut Tally) {

@@ -11,6 +11,8 @@ use answers::builders::put_answer;
 use answers::verdicts::judging;
 use cases::damage;
 use cases::damage::damage;
+use cases::examples::P1_VERSION_1;
+use cases::examples::P1_VERSION_2;
 use cases::generate::Shape;
 use cases::generate::generate;
 use cases::generate::some_shape;
@@ -112,14 +114,10 @@ fn claims(block: &[u8], tally: &mut Tally) {
 // P1 in both versions.
 fn examples(all: &mut Tally) {
     let mut tally = [0usize; 64];
-    let first =
-        b"\x01\x00\x00\x00\x20\x00\x02\x00\x04\x00\x04\x00\x00\x00\x05\x00\x06\x00\x00\x01\x03\x00\x02\x00\x06\x00\x00\x01\x06\x01\x01\x00\x04\x00\x01\x00\x02";
-    let second =
-        b"\x02\x00\x00\x00\x26\x00\x02\x00\x04\x00\x05\x00\x00\x00\x00\x05\x00\x08\x00\x00\x01\x00\x03\x00\x00\x02\x00\x08\x00\x00\x01\x00\x06\x01\x00\x01\x00\x05\x00\x01\x00\x00\x02";
-    forms(first, &mut tally);
-    claims(first, &mut tally);
-    forms(second, &mut tally);
-    claims(second, &mut tally);
+    forms(&P1_VERSION_1, &mut tally);
+    claims(&P1_VERSION_1, &mut tally);
+    forms(&P1_VERSION_2, &mut tally);
+    claims(&P1_VERSION_2, &mut tally);
     line(b"answers to P1", &tally, all);
 }
 

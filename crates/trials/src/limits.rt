@@ -1,4 +1,5 @@
-// Both sides of every limit, in both versions: the numbers are those of documents 01 and 02, what the rooms hold is the exhaustive solver's.
+// Both sides of every limit, in both versions: the numbers are those of documents 01 and 02, what the rooms hold is the exhaustive
+// solver's.
 ghost use Prim.Native.Nat.{_≤_};
 use crate::held::against_numbers;
 use crate::report::Tally;

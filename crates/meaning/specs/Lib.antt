@@ -9,6 +9,7 @@ pub mod Table
 pub mod Answer
 pub mod Refusals
 pub mod Call
+pub mod Margins
 pub mod Kept
 pub mod Convert
 pub mod Judge

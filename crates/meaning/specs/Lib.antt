@@ -18,3 +18,4 @@ pub mod Opened
 pub mod Examples
 pub mod ConvertExamples
 pub mod HeterozygousExamples
+pub mod MarginExamples

@@ -38,3 +38,4 @@ pub mod Written
 pub mod WrittenBytes
 pub mod Convert
 pub mod Heterozygous
+pub mod Margins

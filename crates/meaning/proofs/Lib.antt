@@ -39,3 +39,4 @@ pub mod WrittenBytes
 pub mod Convert
 pub mod Heterozygous
 pub mod Margins
+pub mod MarginCall

@@ -32,7 +32,7 @@ fn sized(
     if work.len() < need {
         return verdict::Judgement::Work(need as u32);
     }
-    ready::tabled(shape, reads, places, lists, t, scratch, work);
+    ready::tabled(shape, reads, places, lists, t, false, scratch, work);
     let e = 4 * shape.m;
     let n = shape.n;
     verdict::judged(

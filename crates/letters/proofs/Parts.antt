@@ -11,7 +11,7 @@ use Rattle.meaning.specs.Block.{Cell, Matrix}
 use Rattle.meaning.specs.Active.{count, read, at, activeCount}
 use Rattle.meaning.specs.Division.{Side, Division}
 use Rattle.meaning.specs.Charge.{Letter, against, W}
-use Rattle.meaning.specs.Letters.{letterOf, general, reported, haplotypes, isFlip}
+use Rattle.meaning.specs.Letters.{Mode, reported, haplotypes, isFlip}
 use Rattle.meaning.specs.Answer.{divisionOf}
 use Rattle.meaning.proofs.Totals.{sum-ext, sum-add, sum-times, sum-bound}
 use Rattle.meaning.proofs.Bounds.{Light, sums-bound}
@@ -105,14 +105,14 @@ module _ (M : Matrix) (sides tally : List ℕ) (of : Tallied M sides tally) (j :
       go c true = omega arith
 
   -- the letters, and each side's entries against its letter
-  pub lettered : (f g a c x y : ℕ) → f ≡ reported general (W M d j) false → g ≡ reported general (W M d j) true
-      → a ≡ bit (letterOf (W M d j) false) → c ≡ bit (letterOf (W M d j) true)
+  pub lettered : (mode : Mode) (f g a c x y : ℕ) → f ≡ reported mode (W M d j) false → g ≡ reported mode (W M d j) true
+      → a ≡ bit (mode .letter (W M d j) false) → c ≡ bit (mode .letter (W M d j) true)
       → ((l : Letter) → a ≡ bit l → x ≡ pairAt (getD tally (4 * j + 1) 0 / unit ∷ getD tally (4 * j) 0 / unit ∷ []) l)
       → ((l : Letter) → c ≡ bit l → y ≡ pairAt (getD tally (4 * j + 3) 0 / unit ∷ getD tally (4 * j + 2) 0 / unit ∷ []) l)
-      → Lettered M d j (record { first = f; second = g; flips = x + y })
+      → Lettered mode M d j (record { first = f; second = g; flips = x + y })
   unfolding haplotypes
-  lettered f g a c x y ef eg ea ec hx hy =
-      let h : Side → Letter = letterOf (W M d j) in
+  lettered mode f g a c x y ef eg ea ec hx hy =
+      let h : Side → Letter = mode .letter (W M d j) in
       let zero-side : x ≡ flipsOf M d j false (h false) =
       hx (h false) ea
       ∙ ap (λ (n : List ℕ). pairAt n (h false)) (side-zero (λ x. x / unit) (flipsOf M d j) flips-read)

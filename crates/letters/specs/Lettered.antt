@@ -7,12 +7,12 @@ use Rattle.meaning.specs.Block.{Matrix}
 use Rattle.meaning.specs.Active.{count, read, at}
 use Rattle.meaning.specs.Division.{Division}
 use Rattle.meaning.specs.Charge.{W}
-use Rattle.meaning.specs.Letters.{general, reported, haplotypes, isFlip}
+use Rattle.meaning.specs.Letters.{Mode, reported, haplotypes, isFlip}
 use Rattle.letters.specs.declared.Letters.{Letters}
 
--- the letters that are reported of column j, and the flips against its letters, for a division
-pub record Lettered (M : Matrix) (d : Division) (j : ℕ) (r : Letters) : Type 0 where
-  pub first-is : r .first ≡ reported general (W M d j) false
-  pub second-is : r .second ≡ reported general (W M d j) true
-  pub flips-are : r .flips ≡ sumTo (count M) (λ q. bit (isFlip (haplotypes general M d (d q) j) (at (read M q) j)))
+-- the letters that are reported of column j, and the flips against its letters, for a division in a mode
+pub record Lettered (mode : Mode) (M : Matrix) (d : Division) (j : ℕ) (r : Letters) : Type 0 where
+  pub first-is : r .first ≡ reported mode (W M d j) false
+  pub second-is : r .second ≡ reported mode (W M d j) true
+  pub flips-are : r .flips ≡ sumTo (count M) (λ q. bit (isFlip (haplotypes mode M d (d q) j) (at (read M q) j)))
   pub flips-few : r .flips ≤ 1024

@@ -1,15 +1,17 @@
 // What is read off a tally: each column's four sums, the letters that are reported, and the flips.
 ghost use mathlib.Core.Path.{_≡_};
 ghost use mathlib.Core.Bool.{cond, not};
-ghost use mathlib.Core.List.{List};
+ghost use mathlib.Core.Bool.{true, false};
+ghost use mathlib.Core.List.{List, [], _∷_};
 ghost use Prim.Native.Nat.{ℕ, _+_, _*_, _≤_, _<_};
 ghost use lib.Dec.{ltb, eqb};
 ghost use lib.ListN.{length};
 ghost use Rattle.meaning.specs.Numbers.{bit};
 ghost use Rattle.meaning.specs.Block.{Matrix};
-ghost use Rattle.meaning.specs.Charge.{Letter, W};
+ghost use Rattle.meaning.specs.Charge.{Letter, Sums, W};
+ghost use Rattle.meaning.specs.Letters.{modeOf};
 ghost use Rattle.meaning.specs.Answer.{divisionOf};
-ghost use Rattle.sums.specs.Sums.{pairAt, arrayOf};
+ghost use Rattle.sums.specs.Sums.{sumsOf, arrayOf, Small, pairAt};
 ghost use Rattle.tally.specs.Tally.{Tallied};
 ghost use Rattle.letters.specs.Lettered.{Lettered};
 
@@ -25,6 +27,7 @@ pub fn sums(tally: &[u32], j: usize) -> [[u32; 2]; 2]
     requires { ⌜ 4 * j + 4 ≤ length (now tally) ⌝ }
     ensures { λ r. ⌜ ((M : Matrix) (sides : List ℕ) → Tallied M sides (now (tally .entry)) → j < M .columns
         → r ≡ arrayOf (W M (divisionOf sides) j)) ⌝ }
+    ensures { λ r. ⌜ Small (sumsOf r) ⌝ }
 {
     let k = 4 * j;
     [
@@ -33,14 +36,39 @@ pub fn sums(tally: &[u32], j: usize) -> [[u32; 2]; 2]
     ]
 }
 
-// The letter of a side: 0 if W0 < W1, otherwise 1.
+// The two sums that each side's letter is chosen from: its own, or where the haplotypes differ those of the column, 0 on the side first.
+fn choices(s: [[u32; 2]; 2], heterozygous: bool) -> [[u32; 2]; 2]
+    requires { ⌜ Small (sumsOf s) ⌝ }
+    ensures { λ r. ⌜ r ≡ arrayOf (modeOf heterozygous .choice (sumsOf s)) ⌝ }
+{
+    if heterozygous {
+        let x = s[0][0] + s[1][1];
+        let y = s[0][1] + s[1][0];
+        return [[x, y], [y, x]];
+    }
+    [[s[0][0], s[0][1]], [s[1][0], s[1][1]]]
+}
+
+// The letter of a side by its two sums: 0 if the first is smaller, otherwise 1.
 fn letter(w0: u32, w1: u32) -> u8
     ensures { λ r. ⌜ r ≡ bit (not (ltb w0 w1)) ⌝ }
 {
     if w0 < w1 { 0 } else { 1 }
 }
 
-// What is reported of a side: 2 where W0 = W1, otherwise its letter.
+// The letters of both sides, by what they are chosen from; where the haplotypes differ the second is the other letter.
+fn letters_of(c: [[u32; 2]; 2], heterozygous: bool) -> [u8; 2]
+    ensures { λ r. ⌜ ((w : Sums) → c ≡ arrayOf (modeOf heterozygous .choice w)
+        → r ≡ bit (modeOf heterozygous .letter w false) ∷ bit (modeOf heterozygous .letter w true) ∷ []) ⌝ }
+{
+    let a = letter(c[0][0], c[0][1]);
+    if heterozygous {
+        return [a, 1 - a];
+    }
+    [a, letter(c[1][0], c[1][1])]
+}
+
+// What is reported of a side: 2 where its two sums are equal, otherwise its letter.
 pub fn reported(w0: u32, w1: u32) -> u8
     ensures { λ r. ⌜ r ≡ cond (eqb w0 w1) 2 (bit (not (ltb w0 w1))) ⌝ }
 {
@@ -55,19 +83,19 @@ fn against(n: [u32; 2], letter: u8) -> u32
 }
 
 // The letters that are reported of column j, and the flips against its letters.
-pub fn letters_at(tally: &[u32], j: usize) -> Letters
+pub fn letters_at(tally: &[u32], j: usize, heterozygous: bool) -> Letters
     requires { ⌜ 4 * j + 4 ≤ length (now tally) ⌝ }
     ensures { λ r. ⌜ ((M : Matrix) (sides : List ℕ) → Tallied M sides (now (tally .entry)) → j < M .columns
-        → Lettered M (divisionOf sides) j r) ⌝ }
+        → Lettered (modeOf heterozygous) M (divisionOf sides) j r) ⌝ }
 {
     let s = sums(tally, j);
-    let a = letter(s[0][0], s[0][1]);
-    let b = letter(s[1][0], s[1][1]);
-    let f = reported(s[0][0], s[0][1]);
-    let g = reported(s[1][0], s[1][1]);
+    let c = choices(s, heterozygous);
+    let l = letters_of(c, heterozygous);
+    let f = reported(c[0][0], c[0][1]);
+    let g = reported(c[1][0], c[1][1]);
     let k = 4 * j;
-    let x = against([tally[k + 1] / 1048576, tally[k] / 1048576], a);
-    let y = against([tally[k + 3] / 1048576, tally[k + 2] / 1048576], b);
+    let x = against([tally[k + 1] / 1048576, tally[k] / 1048576], l[0]);
+    let y = against([tally[k + 3] / 1048576, tally[k + 2] / 1048576], l[1]);
     Letters {
         first: f,
         second: g,

@@ -49,8 +49,8 @@ module _ (mode : Mode) (M : Matrix) (work out : List ℕ) where
   on-refuses e = ap (λ (t : Bool). cond t (accepts mode M work out) (refuses (matrixRefusal M (length work) (length out)) work out)) (ne-eqb (matrixRefusal M (length work) (length out) .number) 0 e)
 
 -- two results that the contract allows are equal
-pub determined : (b work out : List ℕ) (r s : Result) → Answers b work out r → Answers b work out s → r ≡ s
-determined b work out r s x y =
+pub determined : (done r s : Result) → Answers done r → Answers done s → r ≡ s
+determined done r s x y =
     λ i. record {
       number = (x .number-is ∙ sym (y .number-is)) i;
       second = (x .second-is ∙ sym (y .second-is)) i;

@@ -9,10 +9,10 @@ use native.Mathlib.Omega.{arith}
 use Rattle.meaning.specs.Block.{Matrix}
 use Rattle.meaning.specs.Division.{Side, Division}
 use Rattle.meaning.specs.Charge.{Letter, Sums, W, costTo, costOf, leastCost}
-use Rattle.meaning.specs.Letters.{chargeIn, general, crossed, crossedCharge, crossedLetter, crossedChoice, heterozygous}
+use Rattle.meaning.specs.Letters.{chargeIn, general, crossed, crossedCharge, crossedLetter, crossedChoice, heterozygous, modeOf}
 use Rattle.meaning.proofs.Totals.{sum-le}
 use Rattle.meaning.proofs.Sums.{swap}
-use Rattle.meaning.proofs.Modes.{Fair, charge-below, charge-local}
+use Rattle.meaning.proofs.Modes.{Fair, general-fair, charge-below, charge-local}
 use Rattle.meaning.proofs.Best.{least-cost-below, least-cost-attained}
 
 module _ (w : Sums) where
@@ -66,7 +66,12 @@ module _ (w : Sums) where
 pub heterozygous-fair : Fair heterozygous
 heterozygous-fair = record { even = crossed-swap; lawful = crossed-differ; met = crossed-met; lesser = crossed-lesser; below = crossed-below }
 
--- so no division costs less than in the general mode, nor is the least cost below the general one
+-- so either mode is
+pub mode-fair : (b : Bool) → Fair (modeOf b)
+mode-fair false = general-fair
+mode-fair true = heterozygous-fair
+
+-- no division costs less than in the general mode, nor is the least cost below the general one
 pub division-above : (M : Matrix) (d : Division) → costOf (chargeIn general) M d ≤ costOf (chargeIn heterozygous) M d
 unfolding costTo
 division-above M d = sum-le (M .columns) (λ j l. general-below (W M d j))

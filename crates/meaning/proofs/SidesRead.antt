@@ -12,25 +12,25 @@ use Rattle.meaning.specs.Block.{Matrix}
 use Rattle.meaning.specs.Active.{count}
 use Rattle.meaning.specs.Closing.{closing}
 use Rattle.meaning.specs.Division.{Division}
-use Rattle.meaning.specs.Charge.{charge, best}
+use Rattle.meaning.specs.Charge.{Charge, best}
 use Rattle.meaning.specs.Answer.{sidesOf, divisionOf}
 use Rattle.meaning.proofs.Lists.{length-run, getD-run, not-both}
 use Rattle.meaning.proofs.Closing.{closing-lt}
 use Rattle.meaning.proofs.Best.{best-empty}
 
-pub sides-division : (M : Matrix) → divisionOf (sidesOf M (best charge M)) ≡ best charge M
+pub sides-division : (C : Charge) (M : Matrix) → divisionOf (sidesOf M (best C M)) ≡ best C M
 unfolding sidesOf
-sides-division M = fun-ext (λ r. go r (decLe (suc r) (count M)))
+sides-division C M = fun-ext (λ r. go r (decLe (suc r) (count M)))
   where
     d : Division
-    d = best charge M
+    d = best C M
 
     back : (s : Bool) → eqb (bit s) 1 ≡ s
     back true = refl
     back false = refl
 
     out : (r : ℕ) → (r < count M → ⊥) → d r ≡ false
-    out r h = best-empty charge M r (not-both (has r (closing M)) (λ m. h (closing-lt M r m)))
+    out r h = best-empty C M r (not-both (has r (closing M)) (λ m. h (closing-lt M r m)))
 
     go : (r : ℕ) → Dec (r < count M) → divisionOf (run 0 (count M) (λ q. bit (d q))) r ≡ d r
     go r (yes l) = ap (λ (x : ℕ). eqb x 1) (getD-run 0 (count M) (λ q. bit (d q)) r 0 l ∙ ap (λ (k : ℕ). bit (d k)) (zero-add r)) ∙ back (d r)

@@ -7,7 +7,7 @@ use lib.ListN.{length, take, drop}
 use lib.Dec.{eqb}
 use Rattle.meaning.specs.Block.{Matrix, latest, matrixOf}
 use Rattle.meaning.specs.Charge.{leastCost}
-use Rattle.meaning.specs.Letters.{Mode, chargeIn, general}
+use Rattle.meaning.specs.Letters.{Mode, chargeIn, general, heterozygous}
 use Rattle.meaning.specs.Table.{table}
 use Rattle.meaning.specs.Answer.{answer}
 use Rattle.meaning.specs.Refusals.{Numbers, matrixRefusal, refusal}
@@ -56,9 +56,13 @@ callOn mode M work out =
 unfoldable pub call : List ℕ → List ℕ → List ℕ → Result
 call = callWith general latest
 
--- a contract with it, by parts: each is an equation
-pub record Answers (b work out : List ℕ) (r : Result) : Type 0 where
-  pub number-is : r .number ≡ call b work out .number
-  pub second-is : r .second ≡ call b work out .second
-  pub work-is : r .work ≡ call b work out .work
-  pub out-is : r .out ≡ call b work out .out
+-- and what `phase_heterozygous` does
+unfoldable pub heterozygousCall : List ℕ → List ℕ → List ℕ → Result
+heterozygousCall = callWith heterozygous latest
+
+-- a contract with what a call does, by parts: each is an equation
+pub record Answers (done r : Result) : Type 0 where
+  pub number-is : r .number ≡ done .number
+  pub second-is : r .second ≡ done .second
+  pub work-is : r .work ≡ done .work
+  pub out-is : r .out ≡ done .out

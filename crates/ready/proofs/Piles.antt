@@ -10,14 +10,14 @@ use lib.Dec.{ltb}
 use lib.Pow.{pow-mono}
 use Rattle.meaning.specs.Numbers.{bit, maxTo}
 use Rattle.meaning.specs.Block.{Matrix}
-use Rattle.meaning.specs.Active.{count, read, end, active, activeCount, mostActive, used, entries}
+use Rattle.meaning.specs.Active.{count, read, active, activeCount, mostActive, used, entries}
 use Rattle.meaning.specs.Refusals.{Numbers, crowded}
 use Rattle.meaning.proofs.Totals.{sum-bound}
 use Rattle.meaning.proofs.Closing.{Placed, length-active}
 use Rattle.layout.specs.declared.Shape.{Shape}
 use Rattle.layout.specs.Reads.{matrixIn}
 use Rattle.layout.specs.Places.{firstAt, endAt}
-use Rattle.layout.specs.Lists.{countAt, Holds}
+use Rattle.layout.specs.Lists.{Holds}
 use Rattle.layout.specs.Ready.{Ready}
 use Rattle.layout.proofs.Laws.{count-is, lawful-placed}
 use Rattle.pile.specs.Spans.{heightAt, listAt, Spanned}

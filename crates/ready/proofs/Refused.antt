@@ -1,5 +1,5 @@
 -- The checks 9 to 11 of a matrix, one after the other, and its table once it is filled.
-use Prim.Native.Nat.{ℕ, _+_, _*_, _≤_, _<_}
+use Prim.Native.Nat.{ℕ, _*_, _≤_, _<_}
 use borrow.Author.Tests.{lt-ltb, le-ltb}
 use lib.Dec.{ltb}
 use lib.ListN.{length, drop}
@@ -11,7 +11,7 @@ use native.Mathlib.Omega.{arith}
 use Rattle.meaning.specs.Block.{Matrix}
 use Rattle.meaning.specs.Active.{activeCount}
 use Rattle.meaning.specs.Answer.{answerSize}
-use Rattle.meaning.specs.Charge.{charge}
+use Rattle.meaning.specs.Charge.{Charge}
 use Rattle.meaning.specs.Table.{column, table}
 use Rattle.meaning.specs.Rule.{columnOf}
 use Rattle.meaning.specs.Call.{over}
@@ -62,5 +62,5 @@ module _ (M : Matrix) (work out : ℕ) where
     all-pass k l = after-10 k ∙ ap (λ (x : Bool). cond x (record { number = 11; second = answerSize M }) passed) (le-ltb out (answerSize M) l)
 
 -- the table in front of the room has right columns
-pub columns-right : (M : Matrix) (work filled : List ℕ) → filled ≡ over (table charge M) work → (j : ℕ) → j < M .columns → columnOf M filled j ≡ column charge M j
-columns-right M work filled e j l = ap (λ (x : List ℕ). columnOf M x j) e ∙ table-part charge M j l (drop (length (table charge M)) work)
+pub columns-right : (C : Charge) (M : Matrix) (work filled : List ℕ) → filled ≡ over (table C M) work → (j : ℕ) → j < M .columns → columnOf M filled j ≡ column C M j
+columns-right C M work filled e j l = ap (λ (x : List ℕ). columnOf M x j) e ∙ table-part C M j l (drop (length (table C M)) work)

@@ -3,7 +3,7 @@ ghost use mathlib.Core.Path.{_≡_};
 ghost use Prim.Native.Nat.{_*_, _≤_, min};
 ghost use lib.ListN.{length, replicate};
 ghost use Rattle.meaning.specs.Active.{used};
-ghost use Rattle.meaning.specs.Charge.{charge};
+ghost use Rattle.meaning.specs.Letters.{chargeIn, modeOf};
 ghost use Rattle.meaning.specs.Table.{table};
 ghost use Rattle.meaning.specs.Call.{over};
 ghost use Rattle.layout.specs.Reads.{matrixIn, Lawful};
@@ -33,13 +33,14 @@ pub fn piled(shape: layout::Shape, reads: &[u8], places: &mut [u32], lists: &mut
     }
 }
 
-// The columns' lists, and the table. `t` is T; `taken` is room for what a column takes over.
+// The columns' lists, and the table of the mode. `t` is T; `taken` is room for what a column takes over.
 pub fn tabled(
     shape: layout::Shape,
     reads: &[u8],
     places: &[u32],
     lists: &mut [u16],
     t: usize,
+    heterozygous: bool,
     taken: &mut [u32],
     work: &mut [u32],
 )
@@ -47,8 +48,8 @@ pub fn tabled(
     requires { ⌜ ThinColumns (matrixIn shape (now reads)) t ⌝ }
     requires { ⌜ (used (min (shape .n) 12) ≤ length (now taken)) × (shape .m * t ≤ length (now work)) ⌝ }
     ensures { λ _. ⌜ Ready shape (now (reads .entry)) (now (places .entry)) (now (lists .exit)) ⌝ }
-    ensures { λ _. ⌜ now (work .exit) ≡ over (table charge (matrixIn shape (now (reads .entry)))) (now (work .entry)) ⌝ }
+    ensures { λ _. ⌜ now (work .exit) ≡ over (table (chargeIn (modeOf heterozygous)) (matrixIn shape (now (reads .entry)))) (now (work .entry)) ⌝ }
 {
     pile::lists(places, shape.n, shape.m, lists);
-    table::fill_table(shape, reads, places, lists, t, taken, work);
+    table::fill_table(shape, reads, places, lists, t, heterozygous, taken, work);
 }

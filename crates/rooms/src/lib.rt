@@ -1,7 +1,7 @@
 // The solver and the judge with room to work in: local arrays, as large as the reads need.
 ghost use mathlib.Core.Path.{_≡_};
 ghost use Prim.Native.Nat.{_≤_};
-ghost use Rattle.meaning.specs.Letters.{general};
+ghost use Rattle.meaning.specs.Letters.{modeOf};
 ghost use Rattle.meaning.specs.Call.{callOn};
 ghost use Rattle.meaning.specs.Judge.{judgingOn};
 ghost use Rattle.layout.specs.Reads.{matrixIn, Lawful};
@@ -9,10 +9,16 @@ ghost use Rattle.solve.specs.Outcomes.{resultOf};
 ghost use Rattle.verdict.specs.Judgements.{judgedOf};
 
 // Room to work in for at most 32 columns and 7 reads: setting up more would take longer than solving them.
-fn small(shape: layout::Shape, reads: &[u8], work: &mut [u32], out: &mut [u8]) -> solve::Outcome
+fn small(
+    shape: layout::Shape,
+    reads: &[u8],
+    heterozygous: bool,
+    work: &mut [u32],
+    out: &mut [u8],
+) -> solve::Outcome
     requires { ⌜ Lawful shape (now reads) × (shape .m ≤ 32) × (shape .n ≤ 7) ⌝ }
     ensures { λ r. ⌜ resultOf r (now (work .exit)) (now (out .exit))
-        ≡ callOn general (matrixIn shape (now (reads .entry))) (now (work .entry)) (now (out .entry)) ⌝ }
+        ≡ callOn (modeOf heterozygous) (matrixIn shape (now (reads .entry))) (now (work .entry)) (now (out .entry)) ⌝ }
 {
     let mut places = [0u32; 21];
     let mut lists = [0u16; 416];
@@ -20,6 +26,7 @@ fn small(shape: layout::Shape, reads: &[u8], work: &mut [u32], out: &mut [u8]) -
     solve::solve(
         shape,
         reads,
+        heterozygous,
         work,
         out,
         &mut places,
@@ -29,10 +36,16 @@ fn small(shape: layout::Shape, reads: &[u8], work: &mut [u32], out: &mut [u8]) -
 }
 
 // Room to work in for every block.
-fn large(shape: layout::Shape, reads: &[u8], work: &mut [u32], out: &mut [u8]) -> solve::Outcome
+fn large(
+    shape: layout::Shape,
+    reads: &[u8],
+    heterozygous: bool,
+    work: &mut [u32],
+    out: &mut [u8],
+) -> solve::Outcome
     requires { ⌜ Lawful shape (now reads) ⌝ }
     ensures { λ r. ⌜ resultOf r (now (work .exit)) (now (out .exit))
-        ≡ callOn general (matrixIn shape (now (reads .entry))) (now (work .entry)) (now (out .entry)) ⌝ }
+        ≡ callOn (modeOf heterozygous) (matrixIn shape (now (reads .entry))) (now (work .entry)) (now (out .entry)) ⌝ }
 {
     let mut places = [0u32; 3072];
     let mut lists = [0u16; 13312];
@@ -40,6 +53,7 @@ fn large(shape: layout::Shape, reads: &[u8], work: &mut [u32], out: &mut [u8]) -
     solve::solve(
         shape,
         reads,
+        heterozygous,
         work,
         out,
         &mut places,
@@ -52,19 +66,20 @@ fn large(shape: layout::Shape, reads: &[u8], work: &mut [u32], out: &mut [u8]) -
 pub fn solved(
     shape: layout::Shape,
     reads: &[u8],
+    heterozygous: bool,
     work: &mut [u32],
     out: &mut [u8],
 ) -> solve::Outcome
     requires { ⌜ Lawful shape (now reads) ⌝ }
     ensures { λ r. ⌜ resultOf r (now (work .exit)) (now (out .exit))
-        ≡ callOn general (matrixIn shape (now (reads .entry))) (now (work .entry)) (now (out .entry)) ⌝ }
+        ≡ callOn (modeOf heterozygous) (matrixIn shape (now (reads .entry))) (now (work .entry)) (now (out .entry)) ⌝ }
 {
     if shape.m <= 32 {
         if shape.n <= 7 {
-            return small(shape, reads, work, out);
+            return small(shape, reads, heterozygous, work, out);
         }
     }
-    large(shape, reads, work, out)
+    large(shape, reads, heterozygous, work, out)
 }
 
 // Room to work in for judging an answer to any block.

@@ -3,7 +3,7 @@ ghost use mathlib.Core.Path.{_≡_};
 ghost use Prim.Native.Nat.{_*_, _≤_, min};
 ghost use lib.ListN.{length};
 ghost use Rattle.meaning.specs.Active.{used};
-ghost use Rattle.meaning.specs.Letters.{general};
+ghost use Rattle.meaning.specs.Letters.{modeOf};
 ghost use Rattle.meaning.specs.Call.{callOn};
 ghost use Rattle.layout.specs.Reads.{matrixIn, Lawful};
 ghost use Rattle.ready.specs.Piling.{Piling, ThinColumns};
@@ -25,6 +25,7 @@ fn sized(
     places: &[u32],
     lists: &mut [u16],
     t: usize,
+    heterozygous: bool,
     scratch: &mut [u32],
     work: &mut [u32],
     out: &mut [u8],
@@ -33,7 +34,7 @@ fn sized(
     requires { ⌜ ThinColumns (matrixIn shape (now reads)) t ⌝ }
     requires { ⌜ (used (min (shape .n) 12) ≤ length (now scratch)) × (4 * shape .m ≤ length (now scratch)) ⌝ }
     ensures { λ r. ⌜ resultOf r (now (work .exit)) (now (out .exit))
-        ≡ callOn general (matrixIn shape (now (reads .entry))) (now (work .entry)) (now (out .entry)) ⌝ }
+        ≡ callOn (modeOf heterozygous) (matrixIn shape (now (reads .entry))) (now (work .entry)) (now (out .entry)) ⌝ }
 {
     let need = shape.m * t;
     if work.len() < need {
@@ -43,15 +44,26 @@ fn sized(
     if out.len() < size {
         return Outcome::Output(size as u32);
     }
-    ready::tabled(shape, reads, places, lists, t, scratch, work);
-    let cost = written::write_answer(shape, reads, places, lists, t, work, scratch, out);
+    ready::tabled(shape, reads, places, lists, t, heterozygous, scratch, work);
+    let cost = written::write_answer(
+        shape,
+        reads,
+        places,
+        lists,
+        t,
+        heterozygous,
+        work,
+        scratch,
+        out,
+    );
     Outcome::Cost(cost)
 }
 
-// Solves reads that pass the checks 5 to 8. The last three runs are room to work in.
+// Solves reads that pass the checks 5 to 8, in the mode of the flag. The last three runs are room to work in.
 pub fn solve(
     shape: layout::Shape,
     reads: &[u8],
+    heterozygous: bool,
     work: &mut [u32],
     out: &mut [u8],
     places: &mut [u32],
@@ -61,11 +73,21 @@ pub fn solve(
     requires { ⌜ Lawful shape (now reads) ⌝ }
     requires { ⌜ Rooms shape (now places) (now lists) (now scratch) ⌝ }
     ensures { λ r. ⌜ resultOf r (now (work .exit)) (now (out .exit))
-        ≡ callOn general (matrixIn shape (now (reads .entry))) (now (work .entry)) (now (out .entry)) ⌝ }
+        ≡ callOn (modeOf heterozygous) (matrixIn shape (now (reads .entry))) (now (work .entry)) (now (out .entry)) ⌝ }
 {
     let c = ready::piled(shape, reads, places, lists);
     match c {
         ready::Crowding::Crowded(j) => Outcome::Crowded(j),
-        ready::Crowding::Thin(t) => sized(shape, reads, places, lists, t, scratch, work, out),
+        ready::Crowding::Thin(t) => sized(
+            shape,
+            reads,
+            places,
+            lists,
+            t,
+            heterozygous,
+            scratch,
+            work,
+            out,
+        ),
     }
 }

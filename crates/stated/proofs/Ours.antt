@@ -98,7 +98,7 @@ module _ (M : Matrix) (a : List ℕ) (m n : ℕ) (sized : Sized a m n) (columns 
       same-division =
           ap (λ (k : ℕ). divisionOf (take k (drop 17 a))) (let z : statedReads a ≡ 17 + n - 17 = omega (arith, sized .reads) in z)
           ∙ ap divisionOf (same-sides ∙ is)
-          ∙ sides-division M
+          ∙ sides-division charge M
 
       letters-differ : (s : Side) (j : ℕ) → j < m → differs (n + (cond s m 0 + j)) ≡ otherLetterAt M a j s
       letters-differ s j l =

@@ -1,10 +1,11 @@
-// The four sums of a column, by side and letter: the charging leaf, a read that changes side, and the charge.
+// The four sums of a column, by side and letter: the charging leaf, the level that the mode asks for, a read that changes side, and the charge.
 ghost use mathlib.Core.Path.{_≡_};
-ghost use mathlib.Core.Bool.{false};
-ghost use Prim.Native.Nat.{_≤_, _<_, min};
+ghost use mathlib.Core.Bool.{true, false};
+ghost use Prim.Native.Nat.{_-_, _/_, _≤_, _<_, min};
 ghost use lib.ListN.{getD};
 ghost use Rattle.meaning.specs.Charge.{chargeOf};
 ghost use Rattle.sums.specs.Sums.{sumsOf, arrayOf, Small, LightPairs, pairAt, sumsWith, sideOf, movedSums, Movable};
+ghost use Rattle.sums.specs.Level.{levelOf, raised};
 
 // The charging leaf: the four sums with all p reads on side 0.
 pub fn sums(w: &[[u32; 2]; 12], p: usize) -> [[u32; 2]; 2]
@@ -20,6 +21,34 @@ pub fn sums(w: &[[u32; 2]; 12], p: usize) -> [[u32; 2]; 2]
         i += 1;
     }
     [[w0, w1], [0, 0]]
+}
+
+// Half of what a is above b.
+fn half_above(a: u32, b: u32) -> u32
+    ensures { λ r. ⌜ r ≡ (a - b) / 2 ⌝ }
+{
+    if b < a { (a - b) / 2 } else { 0 }
+}
+
+// The level of the all-heterozygous mode: what is added to each sum of either letter, so that the charge below is the mode's, and the
+// whole level above it.
+pub fn level(s: [[u32; 2]; 2]) -> [u32; 2]
+    requires { ⌜ Small (sumsOf s) ⌝ }
+    ensures { λ r. ⌜ r ≡ levelOf true (sumsOf s) ⌝ }
+{
+    let w0 = s[0][0] + s[1][0];
+    let w1 = s[0][1] + s[1][1];
+    [half_above(w1, w0), half_above(w0, w1)]
+}
+
+// The sums with the level added.
+pub fn raised(s: [[u32; 2]; 2], level: [u32; 2]) -> [[u32; 2]; 2]
+    requires { ⌜ Small (raised (sumsOf s) level) ⌝ }
+    ensures { λ r. ⌜ r ≡ arrayOf (raised (sumsOf s) level) ⌝ }
+{
+    let x = level[0];
+    let y = level[1];
+    [[s[0][0] + x, s[0][1] + y], [s[1][0] + x, s[1][1] + y]]
 }
 
 // One read changes side: its pair leaves the sums of one side and enters those of the other.

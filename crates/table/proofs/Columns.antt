@@ -1,21 +1,18 @@
 -- One turn of the table's loop, said of the definitions with the code's own terms.
-use Prim.Native.Nat.{ℕ, _+_, _-_, _*_, _/_, _≤_, _<_}
+use Prim.Native.Nat.{ℕ, _+_, _-_, _*_, _≤_, _<_}
 use mathlib.Core.Path.{_≡_, refl, sym, ap, ap₂, _∙_, subst}
 use mathlib.Core.Bool.{true, false}
 use mathlib.Core.List.{List, [], _++_}
-use native.Mathlib.Nat.{le-trans}
 use native.Mathlib.Omega.{arith}
-use lib.ListN.{length, getD, take, drop, length-drop, length-append}
-use lib.Seq.{getD-take, length-take-le, drop-drop}
-use lib.Pow.{pow-mono, pow-pos}
+use lib.ListN.{length, getD, take, drop, length-drop}
+use lib.Seq.{length-take-le, drop-drop}
 use Rattle.meaning.specs.Block.{Cell, Matrix}
 use Rattle.meaning.specs.Active.{count, read, active, at, used, entries}
-use Rattle.meaning.specs.Closing.{activeReads, closingAt}
-use Rattle.meaning.specs.Charge.{Letter, against}
-use Rattle.meaning.specs.Rule.{leastAt, sharedReads, columnFrom, columnOf}
+use Rattle.meaning.specs.Closing.{activeReads}
+use Rattle.meaning.specs.Charge.{Letter, Sums, against, bySums}
+use Rattle.meaning.specs.Rule.{columnFrom}
 use Rattle.meaning.specs.Call.{laid}
 use Rattle.meaning.proofs.Lists.{length-run}
-use Rattle.meaning.proofs.Closing.{active-split}
 use Rattle.fold.proofs.Masks.{turn-lt}
 use Rattle.fold.specs.Turn.{startsBefore, sharedTo, turnAt}
 use Rattle.sums.specs.Sums.{pairAt, pairOf, LightPairs}
@@ -121,22 +118,22 @@ module _ (shape : Shape) (reads places lists : List ℕ) (ready : Ready shape re
             (fill-room taken fits, subst (λ (x : ℕ). used p ≤ x) (sym long) (subst (λ (x : ℕ). used x ≤ t) (sym q) (z .fits))),
           )
 
-    pub pass-laid : (t : ℕ) → t ≡ entries M → (w : List (List ℕ)) (turn taken work last : List ℕ) → shape .m * t ≤ length work
+    pub pass-laid : (charged : Sums → ℕ) (t : ℕ) → t ≡ entries M → (w : List (List ℕ)) (turn taken work last : List ℕ) → shape .m * t ≤ length work
         → ((i : ℕ) → i < p → getD w i [] ≡ pairOf (at (read M (getD (listPart j) i 0)) j))
         → ((i : ℕ) → i < p → getD turn i 0 ≡ turnAt (startsBefore (firstAt places) (listPart j) j) p i)
-        → last ≡ passed w turn taken p (length (take (j * t + t - j * t) (drop (j * t) work)))
-        → take (j * t) work ++ (last ++ drop (j * t + t - j * t) (drop (j * t) work)) ≡ laid (j * t) (passedOver M j taken) work
+        → last ≡ passed charged w turn taken p (length (take (j * t + t - j * t) (drop (j * t) work)))
+        → take (j * t) work ++ (last ++ drop (j * t + t - j * t) (drop (j * t) work)) ≡ laid (j * t) (passedOver (bySums charged) M j taken) work
     unfolding columnFrom
-    pass-laid t e w turn taken work last room pairs turned h =
+    pass-laid charged t e w turn taken work last room pairs turned h =
         let z = column-sizes shape reads places lists ready j t l e in
         let n : j * t + t - j * t ≡ t = omega arith in
         let long : length (take (j * t + t - j * t) (drop (j * t) work)) ≡ entries M =
         length-take-le (j * t + t - j * t) (drop (j * t) work) (omega (arith, length-drop (j * t) work)) ∙ n ∙ e in
-        let new : last ≡ passedOver M j taken =
+        let new : last ≡ passedOver (bySums charged) M j taken =
         h
-        ∙ ap₂ (λ (x y : ℕ). passed w turn taken x y) (height-is j l p q) long
-        ∙ pass-over M (firstAt places) (listPart j) firsts-are (ready-placed shape reads places lists ready) j part-places w turn taken (column-paired w pairs)
+        ∙ ap₂ (λ (x y : ℕ). passed charged w turn taken x y) (height-is j l p q) long
+        ∙ pass-over M (firstAt places) (listPart j) firsts-are charged (ready-placed shape reads places lists ready) j part-places w turn taken (column-paired w pairs)
         (λ i k. turned i (subst (λ (x : ℕ). i < x) (sym (height-is j l p q)) k) ∙ ap (λ (x : ℕ). turnAt (startsBefore (firstAt places) (listPart j) j) x i) (height-is j l p q)) in
-        let size : length (passedOver M j taken) ≡ t = length-run 0 (entries M) _ ∙ sym e in
+        let size : length (passedOver (bySums charged) M j taken) ≡ t = length-run 0 (entries M) _ ∙ sym e in
         ap₂ (λ (x y : List ℕ). take (j * t) work ++ (x ++ y)) new
         (ap (λ (x : ℕ). drop x (drop (j * t) work)) n ∙ drop-drop t (j * t) work ∙ ap (λ (x : ℕ). drop (j * t + x) work) (sym size))

@@ -11,7 +11,7 @@ use lib.Pow.{pow-mono, pow-pos, pow-add}
 use Rattle.meaning.specs.Block.{Matrix}
 use Rattle.meaning.specs.Active.{used, entries}
 use Rattle.meaning.specs.Closing.{activeReads, closingAt}
-use Rattle.meaning.specs.Rule.{leastAt, sharedReads, columnOf}
+use Rattle.meaning.specs.Rule.{leastAt, sharedReads}
 use Rattle.meaning.proofs.Closing.{active-split}
 use Rattle.layout.specs.declared.Shape.{Shape}
 use Rattle.layout.specs.Reads.{matrixIn}

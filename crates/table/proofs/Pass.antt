@@ -1,6 +1,6 @@
 -- What one column's pass writes is what the rule says.
-use Prim.Native.Nat.{ℕ, zero, suc, _+_, _-_, _*_, _/_, _^_, _≤_, _<_, zero-le}
-use mathlib.Core.Path.{_≡_, refl, sym, ap, ap₂, _∙_, subst}
+use Prim.Native.Nat.{ℕ, zero, suc, _+_, _-_, _*_, _^_, _≤_, _<_, zero-le}
+use mathlib.Core.Path.{_≡_, refl, sym, ap, ap₂, _∙_}
 use mathlib.Core.Bool.{Bool, true, false, cond, true≢false}
 use mathlib.Core.List.{List}
 use native.Mathlib.Nat.{mul-zero, mul-comm, mul-le-mul-right}
@@ -12,14 +12,14 @@ use borrow.Author.Tests.{ltb-true, lt-ltb, le-ltb}
 use Rattle.meaning.specs.Numbers.{bit, has}
 use Rattle.meaning.specs.Block.{Matrix, Read}
 use Rattle.meaning.specs.Active.{count, read, end, active, used, entries}
-use Rattle.meaning.specs.Closing.{activeReads, closingAt}
+use Rattle.meaning.specs.Closing.{activeReads}
 use Rattle.meaning.specs.Division.{Division}
-use Rattle.meaning.specs.Charge.{W, chargeOf, charge}
+use Rattle.meaning.specs.Charge.{Sums, W, Charge, bySums}
 use Rattle.meaning.specs.Table.{pattern}
 use Rattle.meaning.specs.Rule.{indexAt, leastAt, sharedReads, carried, columnFrom, ruleColumn, columnOf}
 use Rattle.meaning.proofs.Totals.{min-ext, sum-ext, sum-zero}
-use Rattle.meaning.proofs.Lists.{run-ext-at, has-getD, keep-none, Distinct}
-use Rattle.meaning.proofs.Closing.{Placed, active-cells, active-of, distinct-active, active-is, active-lt, active-split}
+use Rattle.meaning.proofs.Lists.{run-ext-at, has-getD, keep-none}
+use Rattle.meaning.proofs.Closing.{Placed, active-cells, active-of, distinct-active, active-is, active-lt}
 use Rattle.meaning.proofs.Index.{index-used}
 use Rattle.meaning.proofs.Carried.{rows}
 use Rattle.fold.specs.Turn.{sideAt, foldTo, startsBefore, sharedTo, turnAt}
@@ -29,19 +29,19 @@ use Rattle.column.specs.Pass.{entryAt, passed}
 use Rattle.column.proofs.Join.{Paired, sums-is}
 use Rattle.table.specs.Taken.{sharedBefore, passedOver, TakenOver}
 
-module _ (M : Matrix) (placed : Placed M) (j : ℕ) (w : List (List ℕ)) (turn taken : List ℕ) (paired : Paired M j w) where
+module _ (M : Matrix) (placed : Placed M) (j : ℕ) (w : List (List ℕ)) (turn taken : List ℕ) (paired : Paired M j w) (charged : Sums → ℕ) where
   -- the pass is the rule, if what each index takes over is what the rule says of its division
   pub pass-from : (before : Division → ℕ)
       → ((k : ℕ) → k < used (length (activeReads M j)) → getD taken (foldTo turn k (length (activeReads M j))) 0 ≡ before (pattern (activeReads M j) k))
-      → passed w turn taken (length (activeReads M j)) (entries M) ≡ columnFrom charge M j before
+      → passed charged w turn taken (length (activeReads M j)) (entries M) ≡ columnFrom (bySums charged) M j before
   unfolding passed entryAt columnFrom
   pass-from before h =
       run-ext-at 0 (entries M) (λ k a b. go k (ltb k (used (length (activeReads M j)))) refl)
     where
       go : (k : ℕ) (t : Bool) → ltb k (used (length (activeReads M j))) ≡ t
-          → cond t (chargeOf (sumsWith w (length (activeReads M j)) (sideAt k)) + getD taken (foldTo turn k (length (activeReads M j))) 0) 0
-          ≡ cond t (chargeOf (W M (pattern (activeReads M j) k) j) + before (pattern (activeReads M j) k)) 0
-      go k true e = ap₂ _+_ (ap chargeOf (sym (sums-is M placed j w paired k))) (h k (ltb-true k (used (length (activeReads M j))) e))
+          → cond t (charged (sumsWith w (length (activeReads M j)) (sideAt k)) + getD taken (foldTo turn k (length (activeReads M j))) 0) 0
+          ≡ cond t (charged (W M (pattern (activeReads M j) k) j) + before (pattern (activeReads M j) k)) 0
+      go k true e = ap₂ _+_ (ap charged (sym (sums-is M placed j w paired k))) (h k (ltb-true k (used (length (activeReads M j))) e))
       go k false e = refl
 
 -- the least of a class looks at the entries that the classes fill
@@ -128,26 +128,26 @@ module _ (M : Matrix) (first : ℕ → ℕ) (list : List ℕ) (firsts : (r : ℕ
   fold-before (suc i) listed turn turned k = fold-index M i first list listed firsts turn turned k
 
   -- the pass of any column
-  pub pass-over : Placed M → (j : ℕ) → ((q : ℕ) → q < length (activeReads M j) → getD list q 0 ≡ getD (activeReads M j) q 0)
+  pub pass-over : (charged : Sums → ℕ) → Placed M → (j : ℕ) → ((q : ℕ) → q < length (activeReads M j) → getD list q 0 ≡ getD (activeReads M j) q 0)
       → (w : List (List ℕ)) (turn taken : List ℕ) → Paired M j w
       → ((q : ℕ) → q < length (activeReads M j) → getD turn q 0 ≡ turnAt (startsBefore first list j) (length (activeReads M j)) q)
-      → passed w turn taken (length (activeReads M j)) (entries M) ≡ passedOver M j taken
-  pass-over placed j listed w turn taken paired turned =
-      pass-from M placed j w turn taken paired (λ d. getD taken (indexAt (sharedBefore M j) d) 0)
+      → passed charged w turn taken (length (activeReads M j)) (entries M) ≡ passedOver (bySums charged) M j taken
+  pass-over charged placed j listed w turn taken paired turned =
+      pass-from M placed j w turn taken paired charged (λ d. getD taken (indexAt (sharedBefore M j) d) 0)
       (λ k l. ap (λ (x : ℕ). getD taken x 0) (fold-before j listed turn turned k))
 
 -- a column goes by what its entries take over
-pub column-ext : (M : Matrix) (j : ℕ) (f g : Division → ℕ) → ((d : Division) → f d ≡ g d) → columnFrom charge M j f ≡ columnFrom charge M j g
+pub column-ext : (C : Charge) (M : Matrix) (j : ℕ) (f g : Division → ℕ) → ((d : Division) → f d ≡ g d) → columnFrom C M j f ≡ columnFrom C M j g
 unfolding columnFrom
-column-ext M j f g h =
-    run-ext-at 0 (entries M) (λ k a b. ap (λ (x : ℕ). cond (ltb k (used (length (activeReads M j)))) (chargeOf (W M (pattern (activeReads M j) k) j) + x) 0) (h (pattern (activeReads M j) k)))
+column-ext C M j f g h =
+    run-ext-at 0 (entries M) (λ k a b. ap (λ (x : ℕ). cond (ltb k (used (length (activeReads M j)))) (C M j (pattern (activeReads M j) k) + x) 0) (h (pattern (activeReads M j) k)))
 
 -- so the pass is the rule: at column 0, and at column i + 1 with what column i hands on
-pub over-first : (M : Matrix) (taken col : List ℕ) → getD taken 0 0 ≡ 0 → passedOver M 0 taken ≡ ruleColumn charge M 0 col
+pub over-first : (C : Charge) (M : Matrix) (taken col : List ℕ) → getD taken 0 0 ≡ 0 → passedOver C M 0 taken ≡ ruleColumn C M 0 col
 unfolding ruleColumn
-over-first M taken col z = column-ext M 0 (λ d. getD taken 0 0) (λ d. 0) (λ d. z)
+over-first C M taken col z = column-ext C M 0 (λ d. getD taken 0 0) (λ d. 0) (λ d. z)
 
-pub over-next : (M : Matrix) (i : ℕ) (work taken : List ℕ) → TakenOver M i work taken → passedOver M (suc i) taken ≡ ruleColumn charge M (suc i) (columnOf M work i)
+pub over-next : (C : Charge) (M : Matrix) (i : ℕ) (work taken : List ℕ) → TakenOver M i work taken → passedOver C M (suc i) taken ≡ ruleColumn C M (suc i) (columnOf M work i)
 unfolding ruleColumn carried
-over-next M i work taken h =
-    column-ext M (suc i) (λ d. getD taken (indexAt (sharedReads M i) d) 0) (carried M i (columnOf M work i)) (λ d. h (indexAt (sharedReads M i) d) (index-used (sharedReads M i) d))
+over-next C M i work taken h =
+    column-ext C M (suc i) (λ d. getD taken (indexAt (sharedReads M i) d) 0) (carried M i (columnOf M work i)) (λ d. h (indexAt (sharedReads M i) d) (index-used (sharedReads M i) d))

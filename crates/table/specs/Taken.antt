@@ -6,7 +6,7 @@ use lib.ListN.{length, getD, take, drop}
 use Rattle.meaning.specs.Block.{Matrix}
 use Rattle.meaning.specs.Active.{used}
 use Rattle.meaning.specs.Closing.{activeReads}
-use Rattle.meaning.specs.Charge.{charge}
+use Rattle.meaning.specs.Charge.{Charge}
 use Rattle.meaning.specs.Rule.{indexAt, leastAt, sharedReads, columnFrom, columnOf}
 use Rattle.layout.specs.Lists.{countAt}
 
@@ -47,5 +47,5 @@ pub record TakenFits (M : Matrix) (j : ℕ) (taken : List ℕ) : Type 0 where
   pub small : (g : ℕ) → g < used (length (sharedBefore M j)) → getD taken g 0 ≤ 4000000000
 
 -- column j, where each division takes over what stands at the index of its shared reads
-abbrev pub passedOver : Matrix → ℕ → List ℕ → List ℕ
-passedOver M j taken = columnFrom charge M j (λ d. getD taken (indexAt (sharedBefore M j) d) 0)
+abbrev pub passedOver : Charge → Matrix → ℕ → List ℕ → List ℕ
+passedOver C M j taken = columnFrom C M j (λ d. getD taken (indexAt (sharedBefore M j) d) 0)

@@ -3,7 +3,7 @@ ghost use mathlib.Core.Path.{_≡_};
 ghost use Prim.Native.Nat.{ℕ, _-_, _*_, _≤_, _<_};
 ghost use lib.ListN.{length, getD};
 ghost use Rattle.meaning.specs.Active.{entries};
-ghost use Rattle.meaning.specs.Charge.{charge};
+ghost use Rattle.meaning.specs.Letters.{chargeIn, modeOf};
 ghost use Rattle.meaning.specs.Table.{table};
 ghost use Rattle.meaning.specs.Call.{over, laid};
 ghost use Rattle.meaning.specs.Rule.{ruleColumn, columnOf};
@@ -28,10 +28,11 @@ fn take_over(lists: &[u16], j: usize, t: usize, s: usize, work: &[u32], taken: &
     carry::carry(&work[from..to], plain::entries(s), taken);
 }
 
-// Which column, and how many entries a column has.
+// Which column, how many entries a column has, and how it is charged.
 struct Place {
     j: usize,
     t: usize,
+    heterozygous: bool,
 }
 
 // Column j by the rule, from what the column before it holds: all its entries, written through its part of the work room. `w` and `turn` are
@@ -53,7 +54,7 @@ fn column_by_rule(
     requires { ⌜ (0 < at .j → (k : ℕ) → getD (columnOf (matrixIn shape (now reads)) (now work) (at .j - 1)) k 0 ≤ 4000000000) ⌝ }
     requires { ⌜ (length (now w) ≡ 12) × (length (now turn) ≡ 12) ⌝ }
     ensures { λ _. ⌜ now (work .exit)
-        ≡ laid (at .j * at .t) (ruleColumn charge (matrixIn shape (now (reads .entry))) (at .j) (columnOf (matrixIn shape (now
+        ≡ laid (at .j * at .t) (ruleColumn (chargeIn (modeOf (at .heterozygous))) (matrixIn shape (now (reads .entry))) (at .j) (columnOf (matrixIn shape (now
         (reads .entry))) (now (work .entry)) (at .j - 1)))
         (now (work .entry)) ⌝ }
     ensures { λ _. ⌜ (length (now (w .exit)) ≡ 12) × (length (now (turn .exit)) ≡ 12) ⌝ }
@@ -68,7 +69,7 @@ fn column_by_rule(
     take_over(lists, j, t, s, work, taken);
     let from = j * t;
     let to = from + t;
-    column::fill(w, turn, p, taken, &mut work[from..to]);
+    column::fill(w, turn, p, taken, at.heterozygous, &mut work[from..to]);
 }
 
 // All columns in turn.
@@ -78,19 +79,24 @@ pub fn fill_table(
     places: &[u32],
     lists: &[u16],
     t: usize,
+    heterozygous: bool,
     taken: &mut [u32],
     work: &mut [u32],
 )
     requires { ⌜ Ready shape (now reads) (now places) (now lists) ⌝ }
     requires { ⌜ t ≡ entries (matrixIn shape (now reads)) ⌝ }
     requires { ⌜ (t ≤ length (now taken)) × (shape .m * t ≤ length (now work)) ⌝ }
-    ensures { λ _. ⌜ now (work .exit) ≡ over (table charge (matrixIn shape (now (reads .entry)))) (now (work .entry)) ⌝ }
+    ensures { λ _. ⌜ now (work .exit) ≡ over (table (chargeIn (modeOf heterozygous)) (matrixIn shape (now (reads .entry)))) (now (work .entry)) ⌝ }
 {
     let mut w = [[0u32; 2]; 12];
     let mut turn = [0usize; 12];
     let mut j: usize = 0;
     while j < shape.m {
-        let at = Place { j: j, t: t };
+        let at = Place {
+            j: j,
+            t: t,
+            heterozygous: heterozygous,
+        };
         column_by_rule(
             shape,
             reads,

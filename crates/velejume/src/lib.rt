@@ -1,6 +1,8 @@
 // The public calls. None asks anything of its caller: every block of bytes, with rooms of every size, gets an answer or a refusal.
 ghost use mathlib.Core.Path.{_≡_};
-ghost use Rattle.meaning.specs.Call.{call};
+ghost use Rattle.meaning.specs.Block.{latest};
+ghost use Rattle.meaning.specs.Letters.{modeOf};
+ghost use Rattle.meaning.specs.Call.{callWith, call, heterozygousCall};
 ghost use Rattle.meaning.specs.Judge.{judging};
 ghost use Rattle.meaning.specs.Convert.{converting};
 ghost use Rattle.convert.specs.Outcomes.{conversionNumber, conversionSecond};
@@ -37,13 +39,10 @@ fn given(o: solve::Outcome) -> Numbers
     }
 }
 
-// Phases a fragment block: the least cost, the table in the work room and the answer block in the output, or a refusal that leaves
-// both as they were.
-pub fn phase(block: &[u8], work: &mut [u32], out: &mut [u8]) -> Numbers
-    ensures { λ r. ⌜ r .number ≡ call (now (block .entry)) (now (work .entry)) (now (out .entry)) .number ⌝ }
-    ensures { λ r. ⌜ r .second ≡ call (now (block .entry)) (now (work .entry)) (now (out .entry)) .second ⌝ }
-    ensures { λ r. ⌜ now (work .exit) ≡ call (now (block .entry)) (now (work .entry)) (now (out .entry)) .work ⌝ }
-    ensures { λ r. ⌜ now (out .exit) ≡ call (now (block .entry)) (now (work .entry)) (now (out .entry)) .out ⌝ }
+// A call in the mode of the flag.
+fn called(block: &[u8], heterozygous: bool, work: &mut [u32], out: &mut [u8]) -> Numbers
+    ensures { λ r. ⌜ record { number = r .number; second = r .second; work = now (work .exit); out = now (out .exit) }
+        ≡ callWith (modeOf heterozygous) latest (now (block .entry)) (now (work .entry)) (now (out .entry)) ⌝ }
 {
     let v = block::checked(block);
     match v {
@@ -52,10 +51,31 @@ pub fn phase(block: &[u8], work: &mut [u32], out: &mut [u8]) -> Numbers
             second: second,
         },
         block::Verdict::Passed(shape) => {
-            let o = rooms::solved(shape, &block[9..], work, out);
+            let o = rooms::solved(shape, &block[9..], heterozygous, work, out);
             given(o)
         }
     }
+}
+
+// Phases a fragment block: the least cost, the table in the work room and the answer block in the output, or a refusal that leaves
+// both as they were.
+pub fn phase(block: &[u8], work: &mut [u32], out: &mut [u8]) -> Numbers
+    ensures { λ r. ⌜ r .number ≡ call (now (block .entry)) (now (work .entry)) (now (out .entry)) .number ⌝ }
+    ensures { λ r. ⌜ r .second ≡ call (now (block .entry)) (now (work .entry)) (now (out .entry)) .second ⌝ }
+    ensures { λ r. ⌜ now (work .exit) ≡ call (now (block .entry)) (now (work .entry)) (now (out .entry)) .work ⌝ }
+    ensures { λ r. ⌜ now (out .exit) ≡ call (now (block .entry)) (now (work .entry)) (now (out .entry)) .out ⌝ }
+{
+    called(block, false, work, out)
+}
+
+// The same in the all-heterozygous mode: the two haplotypes differ at every column.
+pub fn phase_heterozygous(block: &[u8], work: &mut [u32], out: &mut [u8]) -> Numbers
+    ensures { λ r. ⌜ r .number ≡ heterozygousCall (now (block .entry)) (now (work .entry)) (now (out .entry)) .number ⌝ }
+    ensures { λ r. ⌜ r .second ≡ heterozygousCall (now (block .entry)) (now (work .entry)) (now (out .entry)) .second ⌝ }
+    ensures { λ r. ⌜ now (work .exit) ≡ heterozygousCall (now (block .entry)) (now (work .entry)) (now (out .entry)) .work ⌝ }
+    ensures { λ r. ⌜ now (out .exit) ≡ heterozygousCall (now (block .entry)) (now (work .entry)) (now (out .entry)) .out ⌝ }
+{
+    called(block, true, work, out)
 }
 
 // The same for C: the number is returned, the second number goes to where `second` points.
@@ -74,6 +94,24 @@ pub extern "C" fn velejume_phase(
     let r = phase(block, work, out);
     *second = r.second;
     r.number
+}
+
+// The same for C: the number is returned, the second number goes to where `second` points.
+#[no_mangle]
+pub extern "C" fn velejume_phase_heterozygous(
+    block: &[u8],
+    work: &mut [u32],
+    out: &mut [u8],
+    second: &mut u32,
+) -> u32
+    ensures { λ r. ⌜ r ≡ heterozygousCall (now (block .entry)) (now (work .entry)) (now (out .entry)) .number ⌝ }
+    ensures { λ _. ⌜ now (second .exit) ≡ heterozygousCall (now (block .entry)) (now (work .entry)) (now (out .entry)) .second ⌝ }
+    ensures { λ _. ⌜ now (work .exit) ≡ heterozygousCall (now (block .entry)) (now (work .entry)) (now (out .entry)) .work ⌝ }
+    ensures { λ _. ⌜ now (out .exit) ≡ heterozygousCall (now (block .entry)) (now (work .entry)) (now (out .entry)) .out ⌝ }
+{
+    let h = phase_heterozygous(block, work, out);
+    *second = h.second;
+    h.number
 }
 
 // A number with its second number.

@@ -6,6 +6,7 @@ use mathlib.Core.List.{List}
 use lib.ListN.{length}
 use Rattle.meaning.specs.Block.{Matrix}
 use Rattle.meaning.specs.Active.{entries}
+use Rattle.meaning.specs.Charge.{charge}
 use Rattle.meaning.specs.Judge.{malformed, otherCounts, unknownMark, falseDash, wrongCost, notLeast}
 use Rattle.layout.specs.declared.Shape.{Shape}
 use Rattle.layout.specs.Reads.{matrixIn}
@@ -17,7 +18,7 @@ pub record Filled (s : Shape) (reads places lists : List ℕ) (t : ℕ) (work : 
   pub ready : Ready s reads places lists
   pub entries-are : t ≡ entries (matrixIn s reads)
   pub room : s .m * t ≤ length work
-  pub right : RightColumns (matrixIn s reads) work
+  pub right : RightColumns charge (matrixIn s reads) work
 
 -- none of 50 to 52
 pub record Marked (M : Matrix) (a : List ℕ) : Type 0 where

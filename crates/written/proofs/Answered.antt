@@ -1,28 +1,26 @@
 -- The answer block: sides, then letters column by column, then the head.
 use Prim.Native.Nat.{ℕ, suc, _+_, _-_, _*_, _≤_, _<_}
-use mathlib.Core.Path.{_≡_, refl, sym, ap, ap₂, _∙_, fun-ext}
-use mathlib.Core.Bool.{Bool, true, false}
+use mathlib.Core.Path.{_≡_, sym, ap, ap₂, _∙_}
+use mathlib.Core.Bool.{true, false}
 use mathlib.Core.List.{List, [], _∷_, _++_}
 use native.Mathlib.Nat.{add-zero, zero-add}
 use native.Mathlib.Numerals.{add-one}
-use native.Mathlib.Decide.{decLe}
 use native.Mathlib.Omega.{arith}
-use lib.ListN.{length, take, drop, set, length-drop, List·getD-eq-default, take-append-drop}
+use lib.ListN.{length, take, drop, set, length-drop, take-append-drop}
 use lib.Seq.{length-take-le, drop-at, take-at, drop-drop}
-use lib.Dec.{eqb}
-use Rattle.meaning.specs.Numbers.{bit, run, has}
+use Rattle.meaning.specs.Numbers.{bit, run}
 use Rattle.meaning.specs.Block.{Matrix}
 use Rattle.meaning.specs.Active.{count, at}
-use Rattle.meaning.specs.Closing.{closing, activeReads}
-use Rattle.meaning.specs.Division.{Side, Division, allZero}
-use Rattle.meaning.specs.Charge.{W, charge, leastCost, best}
-use Rattle.meaning.specs.Letters.{general, reported, haplotypes, flips}
+use Rattle.meaning.specs.Closing.{activeReads}
+use Rattle.meaning.specs.Division.{Side, Division}
+use Rattle.meaning.specs.Charge.{W, leastCost, best}
+use Rattle.meaning.specs.Letters.{Mode, chargeIn, reported, haplotypes, flips}
 use Rattle.meaning.specs.Answer.{answerBytes, sidesOf, divisionOf, lettersOf, answer}
-use Rattle.meaning.specs.Table.{column}
-use Rattle.meaning.specs.Rule.{columnOf, leastEntry, wayBack}
+use Rattle.meaning.specs.Rule.{columnOf, leastEntry}
 use Rattle.meaning.specs.Call.{over, laid}
-use Rattle.meaning.proofs.Lists.{length-run, getD-run, run-more, not-both}
-use Rattle.meaning.proofs.Modes.{charge-local, charge-even}
+use Rattle.meaning.proofs.Lists.{length-run, run-more}
+use Rattle.meaning.proofs.Sums.{sums-local, sums-even}
+use Rattle.meaning.proofs.Modes.{Fair}
 use Rattle.meaning.proofs.SidesRead.{sides-division}
 use Rattle.meaning.proofs.Closing.{Placed}
 use Rattle.meaning.proofs.Rule.{rule-cost, rule-back}
@@ -66,18 +64,18 @@ module _ (n m : ℕ) (f g : ℕ → ℕ) (out : List ℕ) (fits : 17 + n + 2 * m
       ∙ ap (λ (x : List ℕ). laid (17 + n + m) x (laid (17 + n) (run 0 (j + 1) f) out)) (more g)
 
 -- all parts together
-pub answered : (M : Matrix) (n m cost flipped : ℕ) (old : List ℕ) → n ≡ count M → m ≡ M .columns → 17 + n + 2 * m ≤ length old
-    → cost ≡ leastCost charge M → flipped ≡ flips M (best charge M) (haplotypes general M (best charge M))
-    → laid 0 (headBytes cost flipped n m) (laid (17 + n + m) (lettersOf general M (best charge M) true)
-    (laid (17 + n) (lettersOf general M (best charge M) false) (laid 17 (sidesOf M (best charge M)) old)))
-    ≡ over (answer general M) old
+pub answered : (mode : Mode) (M : Matrix) (n m cost flipped : ℕ) (old : List ℕ) → n ≡ count M → m ≡ M .columns → 17 + n + 2 * m ≤ length old
+    → cost ≡ leastCost (chargeIn mode) M → flipped ≡ flips M (best (chargeIn mode) M) (haplotypes mode M (best (chargeIn mode) M))
+    → laid 0 (headBytes cost flipped n m) (laid (17 + n + m) (lettersOf mode M (best (chargeIn mode) M) true)
+    (laid (17 + n) (lettersOf mode M (best (chargeIn mode) M) false) (laid 17 (sidesOf M (best (chargeIn mode) M)) old)))
+    ≡ over (answer mode M) old
 unfolding answer sidesOf lettersOf
-answered M n m cost flipped old e f fits c g =
-    let d : Division = best charge M in
-    let letters : Side → ℕ → ℕ = λ s j. reported general (W M d j) s in
-    answer-laid cost flipped n m (sidesOf M d) (lettersOf general M d false) (lettersOf general M d true) old
+answered mode M n m cost flipped old e f fits c g =
+    let d : Division = best (chargeIn mode) M in
+    let letters : Side → ℕ → ℕ = λ s j. reported mode (W M d j) s in
+    answer-laid cost flipped n m (sidesOf M d) (lettersOf mode M d false) (lettersOf mode M d true) old
     (length-run 0 (count M) (λ r. bit (d r)) ∙ sym e) (length-run 0 (M .columns) (letters false) ∙ sym f) (length-run 0 (M .columns) (letters true) ∙ sym f) fits
-    ∙ ap₂ (λ (x y : ℕ). over (answerBytes x y (sidesOf M d) (lettersOf general M d false) (lettersOf general M d true)) old) c g
+    ∙ ap₂ (λ (x y : ℕ). over (answerBytes x y (sidesOf M d) (lettersOf mode M d false) (lettersOf mode M d true)) old) c g
 
 -- the part of the output that the sides are
 pub sides-laid : (n : ℕ) (sides old : List ℕ) → length sides ≡ n → 17 + n ≤ length old → take 17 old ++ (sides ++ drop (17 + n - 17) (drop 17 old)) ≡ laid 17 sides old
@@ -89,19 +87,19 @@ sides-read n sides old e l =
     ap (take n) (drop-at (take 17 old) (sides ++ drop (17 + length sides) old) 17 (length-take-le 17 old l)) ∙ take-at sides (drop (17 + length sides) old) n e
 
 -- the whole output, step by step as it is written
-pub finished : (M : Matrix) (n m cost flipped : ℕ) (old o1 o2 o3 : List ℕ) → n ≡ count M → m ≡ M .columns → 17 + n + 2 * m ≤ length old
-    → o1 ≡ laid 17 (sidesOf M (best charge M)) old
-    → flipped ≡ flipsOf M (divisionIn n o1) → o2 ≡ withLetters M (divisionIn n o1) n m o1
-    → cost ≡ leastCost charge M → o3 ≡ laid 0 (headBytes cost flipped n m) o2 → o3 ≡ over (answer general M) old
+pub finished : (mode : Mode) (M : Matrix) (n m cost flipped : ℕ) (old o1 o2 o3 : List ℕ) → n ≡ count M → m ≡ M .columns → 17 + n + 2 * m ≤ length old
+    → o1 ≡ laid 17 (sidesOf M (best (chargeIn mode) M)) old
+    → flipped ≡ flipsOf mode M (divisionIn n o1) → o2 ≡ withLetters mode M (divisionIn n o1) n m o1
+    → cost ≡ leastCost (chargeIn mode) M → o3 ≡ laid 0 (headBytes cost flipped n m) o2 → o3 ≡ over (answer mode M) old
 unfolding sidesOf
-finished M n m cost flipped old o1 o2 o3 e f fits a b c d g =
-    let k : length (sidesOf M (best charge M)) ≡ n = length-run 0 (count M) (λ r. bit (best charge M r)) ∙ sym e in
-    let s : divisionIn n o1 ≡ best charge M =
-    ap (λ (x : List ℕ). divisionOf (take n (drop 17 x))) a ∙ ap divisionOf (sides-read n (sidesOf M (best charge M)) old k (omega arith)) ∙ sides-division M in
+finished mode M n m cost flipped old o1 o2 o3 e f fits a b c d g =
+    let k : length (sidesOf M (best (chargeIn mode) M)) ≡ n = length-run 0 (count M) (λ r. bit (best (chargeIn mode) M r)) ∙ sym e in
+    let s : divisionIn n o1 ≡ best (chargeIn mode) M =
+    ap (λ (x : List ℕ). divisionOf (take n (drop 17 x))) a ∙ ap divisionOf (sides-read n (sidesOf M (best (chargeIn mode) M)) old k (omega arith)) ∙ sides-division (chargeIn mode) M in
     g
     ∙ ap (laid 0 (headBytes cost flipped n m))
-    (c ∙ ap₂ (λ (x : Division) (y : List ℕ). laid (17 + n + m) (lettersOf general M x true) (laid (17 + n) (lettersOf general M x false) y)) s a)
-    ∙ answered M n m cost flipped old e f fits d (b ∙ ap (λ (x : Division). flips M x (haplotypes general M x)) s)
+    (c ∙ ap₂ (λ (x : Division) (y : List ℕ). laid (17 + n + m) (lettersOf mode M x true) (laid (17 + n) (lettersOf mode M x false) y)) s a)
+    ∙ answered mode M n m cost flipped old e f fits d (b ∙ ap (λ (x : Division). flips M x (haplotypes mode M x)) s)
 
 -- the sides' part keeps its length, and so does the output
 pub sides-size : (n : ℕ) (sides old : List ℕ) → length sides ≡ length (take (17 + n - 17) (drop 17 old)) → 17 + n ≤ length old → length sides ≡ n
@@ -114,11 +112,11 @@ output-length n sides old e l =
     ap length (sides-laid n sides old k l) ∙ length-laid 17 sides old (omega arith)
 
 -- the least entry of the last column is the cost
-pub cost-is : (M : Matrix) → Placed M → 0 < M .columns → (work : List ℕ) → RightColumns M work → tableLeast M work ≡ leastCost charge M
-cost-is M placed z work h =
+pub cost-is : (mode : Mode) → Fair mode → (M : Matrix) → Placed M → 0 < M .columns → (work : List ℕ) → RightColumns (chargeIn mode) M work → tableLeast M work ≡ leastCost (chargeIn mode) M
+cost-is mode fair M placed z work h =
     ap (leastEntry (activeReads M (M .columns - 1))) (h (M .columns - 1) (omega arith))
-    ∙ rule-cost charge M (charge-local M) (charge-even M) placed (M .columns - 1) (let q : M .columns ≡ suc (M .columns - 1) = omega arith in q)
+    ∙ rule-cost (chargeIn mode) M (sums-local (mode .charged) M) (sums-even (mode .charged) (fair .even) M) placed (M .columns - 1) (let q : M .columns ≡ suc (M .columns - 1) = omega arith in q)
 
 -- the sides of the way back are those of the reported division
-pub sides-are : (M : Matrix) → Placed M → (work : List ℕ) → RightColumns M work → sidesOf M (tableDivision M work) ≡ sidesOf M (best charge M)
-sides-are M placed work h = ap (sidesOf M) (rule-back charge M (charge-local M) (charge-even M) placed (columnOf M work) h)
+pub sides-are : (mode : Mode) → Fair mode → (M : Matrix) → Placed M → (work : List ℕ) → RightColumns (chargeIn mode) M work → sidesOf M (tableDivision M work) ≡ sidesOf M (best (chargeIn mode) M)
+sides-are mode fair M placed work h = ap (sidesOf M) (rule-back (chargeIn mode) M (sums-local (mode .charged) M) (sums-even (mode .charged) (fair .even) M) placed (columnOf M work) h)

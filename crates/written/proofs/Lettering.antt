@@ -11,9 +11,8 @@ use Rattle.meaning.specs.Block.{Matrix}
 use Rattle.meaning.specs.Active.{count, read, at}
 use Rattle.meaning.specs.Division.{Side, Division}
 use Rattle.meaning.specs.Charge.{W}
-use Rattle.meaning.specs.Letters.{general, reported, haplotypes, isFlip, flips}
+use Rattle.meaning.specs.Letters.{Mode, reported, haplotypes, isFlip, flips}
 use Rattle.meaning.specs.Answer.{divisionOf, lettersOf}
-use Rattle.meaning.specs.Call.{laid}
 use Rattle.sums.proofs.Laws.{leaf-more}
 use Rattle.letters.specs.declared.Letters.{Letters}
 use Rattle.tally.specs.Tally.{Tallied}
@@ -30,64 +29,64 @@ module _ (n : ℕ) (out : List ℕ) where
   sides-length h = length-take-le (17 + n - 17) (drop 17 out) (omega (arith, length-drop 17 out)) ∙ sides-count
 
   -- what the tally of these sides tells of a column
-  pub sides-lettered : (M : Matrix) (tally : List ℕ) → Tallied M (take (17 + n - 17) (drop 17 out)) tally → (j : ℕ) → j < M .columns → (x : Letters)
-      → ((M : Matrix) (sides : List ℕ) → Tallied M sides tally → j < M .columns → Lettered M (divisionOf sides) j x)
-      → Lettered M (divisionIn n out) j x
-  sides-lettered M tally t j l x h =
-      subst (λ (k : ℕ). Lettered M (divisionOf (take k (drop 17 out))) j x) sides-count (h M (take (17 + n - 17) (drop 17 out)) t l)
+  pub sides-lettered : (mode : Mode) (M : Matrix) (tally : List ℕ) → Tallied M (take (17 + n - 17) (drop 17 out)) tally → (j : ℕ) → j < M .columns → (x : Letters)
+      → ((M : Matrix) (sides : List ℕ) → Tallied M sides tally → j < M .columns → Lettered mode M (divisionOf sides) j x)
+      → Lettered mode M (divisionIn n out) j x
+  sides-lettered mode M tally t j l x h =
+      subst (λ (k : ℕ). Lettered mode M (divisionOf (take k (drop 17 out))) j x) sides-count (h M (take (17 + n - 17) (drop 17 out)) t l)
 
 -- what is reported of a side at a column, and the column's flips
-abbrev pub letterAt : Matrix → Division → Side → ℕ → ℕ
-letterAt M d s j = reported general (W M d j) s
+abbrev pub letterAt : Mode → Matrix → Division → Side → ℕ → ℕ
+letterAt mode M d s j = reported mode (W M d j) s
 
-abbrev pub flipsAt : Matrix → Division → ℕ → ℕ
-flipsAt M d j = sumTo (count M) (λ q. bit (isFlip (haplotypes general M d (d q) j) (at (read M q) j)))
+abbrev pub flipsAt : Mode → Matrix → Division → ℕ → ℕ
+flipsAt mode M d j = sumTo (count M) (λ q. bit (isFlip (haplotypes mode M d (d q) j) (at (read M q) j)))
 
 -- the letters of the first j columns are written, and their flips counted
-pub record Written (M : Matrix) (n m : ℕ) (old out : List ℕ) (flipped j : ℕ) : Type 0 where
+pub record Written (mode : Mode) (M : Matrix) (n m : ℕ) (old out : List ℕ) (flipped j : ℕ) : Type 0 where
   pub inside : j ≤ m
   pub same-length : length out ≡ length old
-  pub letters : out ≡ lettersTo n m (letterAt M (divisionIn n old) false) (letterAt M (divisionIn n old) true) j old
-  pub flips-are : flipped ≡ sumTo j (flipsAt M (divisionIn n old))
+  pub letters : out ≡ lettersTo n m (letterAt mode M (divisionIn n old) false) (letterAt mode M (divisionIn n old) true) j old
+  pub flips-are : flipped ≡ sumTo j (flipsAt mode M (divisionIn n old))
   pub flips-few : flipped ≤ 1024 * j
 
-module _ (M : Matrix) (n m : ℕ) (old : List ℕ) (fits : 17 + n + 2 * m ≤ length old) where
+module _ (mode : Mode) (M : Matrix) (n m : ℕ) (old : List ℕ) (fits : 17 + n + 2 * m ≤ length old) where
   abbrev d : Division
   d = divisionIn n old
 
-  pub written-none : Written M n m old old 0 0
+  pub written-none : Written mode M n m old old 0 0
   unfolding sumTo
   written-none =
       record {
         inside = zero-le;
         same-length = refl;
-        letters = letters-none n m (letterAt M d false) (letterAt M d true) old fits;
+        letters = letters-none n m (letterAt mode M d false) (letterAt mode M d true) old fits;
         flips-are = refl;
         flips-few = zero-le;
       }
 
-  module _ (out : List ℕ) (flipped j : ℕ) (w : Written M n m old out flipped j) where
-    pub written-more : j < m → (x : Letters) → Lettered M d j x
-        → Written M n m old (set (set out (17 + n + j) (x .first)) (17 + n + m + j) (x .second)) (flipped + x .flips) (j + 1)
+  module _ (out : List ℕ) (flipped j : ℕ) (w : Written mode M n m old out flipped j) where
+    pub written-more : j < m → (x : Letters) → Lettered mode M d j x
+        → Written mode M n m old (set (set out (17 + n + j) (x .first)) (17 + n + m + j) (x .second)) (flipped + x .flips) (j + 1)
     written-more l x z =
-        let new : set (set out (17 + n + j) (x .first)) (17 + n + m + j) (x .second) ≡ lettersTo n m (letterAt M d false) (letterAt M d true) (j + 1) old =
+        let new : set (set out (17 + n + j) (x .first)) (17 + n + m + j) (x .second) ≡ lettersTo n m (letterAt mode M d false) (letterAt mode M d true) (j + 1) old =
         ap (λ (o : List ℕ). set (set o (17 + n + j) (x .first)) (17 + n + m + j) (x .second)) (w .letters)
-        ∙ ap₂ (λ (a c : ℕ). set (set (lettersTo n m (letterAt M d false) (letterAt M d true) j old) (17 + n + j) a) (17 + n + m + j) c) (z .first-is) (z .second-is)
-        ∙ letters-more n m (letterAt M d false) (letterAt M d true) old fits j l in
+        ∙ ap₂ (λ (a c : ℕ). set (set (lettersTo n m (letterAt mode M d false) (letterAt mode M d true) j old) (17 + n + j) a) (17 + n + m + j) c) (z .first-is) (z .second-is)
+        ∙ letters-more n m (letterAt mode M d false) (letterAt mode M d true) old fits j l in
         record {
           inside = omega arith;
-          same-length = ap length new ∙ letters-length n m (letterAt M d false) (letterAt M d true) old fits (j + 1) (omega arith);
+          same-length = ap length new ∙ letters-length n m (letterAt mode M d false) (letterAt mode M d true) old fits (j + 1) (omega arith);
           letters = new;
-          flips-are = ap₂ (λ (a c : ℕ). a + c) (w .flips-are) (z .flips-are) ∙ sym (leaf-more j (flipsAt M d));
+          flips-are = ap₂ (λ (a c : ℕ). a + c) (w .flips-are) (z .flips-are) ∙ sym (leaf-more j (flipsAt mode M d));
           flips-few = omega (arith, w .flips-few, z .flips-few);
         }
 
     -- all columns done
     pub written-all : m ≡ M .columns → m ≤ j
-        → (flipped ≡ flipsOf M d) × (out ≡ withLetters M d n m old)
+        → (flipped ≡ flipsOf mode M d) × (out ≡ withLetters mode M d n m old)
     unfolding flips lettersOf
     written-all e l =
         let k : j ≡ M .columns = omega (arith, w .inside) in (
-          w .flips-are ∙ ap (λ (i : ℕ). sumTo i (flipsAt M d)) k,
-          w .letters ∙ ap (λ (i : ℕ). lettersTo n m (letterAt M d false) (letterAt M d true) i old) k,
+          w .flips-are ∙ ap (λ (i : ℕ). sumTo i (flipsAt mode M d)) k,
+          w .letters ∙ ap (λ (i : ℕ). lettersTo n m (letterAt mode M d false) (letterAt mode M d true) i old) k,
         )

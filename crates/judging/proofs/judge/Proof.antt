@@ -1,13 +1,10 @@
 use borrow.Author.Needs.{needs}
-use native.Mathlib.Omega.{arith}
 use mathlib.Core.Path.{subst}
 use Rattle.layout.specs.Reads.{matrixIn}
 use Rattle.ready.specs.Piling.{ColumnsFound}
 use Rattle.judging.proofs.Results.{crowded-judging}
 use Rattle.judging.proofs.judge.Statement.{statement}
 use Rattle.judging.proofs.judge.Tie as tie
-use Rattle.ready.proofs.piled.Reads as piled-reads
-use Rattle.judging.proofs.sized.Reads as sized-reads
 
 piled-requires : tie.Need-piled-requires
 piled-requires c κs = let s = c .before .before .before .before .before .before .before .before .before in let r = s .pre .1 .0 in (s .pre .0, ((r .places-room, r .lists-room), r .lists-empty))

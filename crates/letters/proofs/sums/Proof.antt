@@ -1,5 +1,6 @@
 use borrow.Author.Needs.{needs}
 use Rattle.letters.proofs.Parts.{sums-read}
+use Rattle.letters.proofs.Sides.{read-small}
 use Rattle.letters.proofs.sums.Statement.{statement}
 use Rattle.letters.proofs.sums.Tie as tie
 
@@ -40,7 +41,7 @@ shared-slice-read-t22 : tie.Need-shared-slice-read-t22
 shared-slice-read-t22 c = search needs
 
 returns : tie.Need-returns
-returns c = λ M sides of inside. sums-read M sides _ of _ inside
+returns c = ((λ M sides of inside. sums-read M sides _ of _ inside), read-small _ _ _ _)
 
 pub sums-spec : {M : Type 1} → statement M
 sums-spec =

@@ -1,9 +1,7 @@
 use borrow.Author.Needs.{needs}
 use native.Mathlib.Omega.{arith}
-use Prim.Native.Nat.{ℕ, _*_, _≤_, _<_}
+use Prim.Native.Nat.{ℕ, _<_}
 use mathlib.Core.Path.{_≡_, sym, ap, _∙_, subst}
-use native.Mathlib.Nat.{le-trans, le-of-eq}
-use lib.ListN.{length}
 use Rattle.meaning.specs.Refusals.{crowded}
 use Rattle.layout.specs.Places.{firstAt, endAt}
 use Rattle.layout.specs.Lists.{countAt}
@@ -14,10 +12,6 @@ use Rattle.ready.specs.Piling.{Piling}
 use Rattle.ready.proofs.Piles.{ends-inside, piling-lists, crowded-lt, crowded-found, thin-found}
 use Rattle.ready.proofs.piled.Statement.{statement}
 use Rattle.ready.proofs.piled.Tie as tie
-use Rattle.reads.proofs.places.Reads as places-reads
-use Rattle.pile.proofs.heights.Reads as heights-reads
-use Rattle.pile.proofs.tallest.Reads as tallest-reads
-use Rattle.plain.proofs.entries.Reads as entries-reads
 
 -- where the reads lie is noted
 piling : (c : tie.After-places) → let a = c .before .before .before .before .before .args in Piling (a .shape) (a .reads .now) (c .places .last .1 .1 .0) (a .lists .now)

@@ -1,13 +1,10 @@
 use borrow.Author.Needs.{needs}
-use native.Mathlib.Omega.{arith}
 use native.Mathlib.Nat.{le-trans}
 use Rattle.layout.specs.Ready.{Ready}
 use Rattle.layout.proofs.Laws.{count-is}
 use Rattle.ready.proofs.Piles.{ends-inside, entries-room, heights-few, piled-ready}
 use Rattle.ready.proofs.tabled.Statement.{statement}
 use Rattle.ready.proofs.tabled.Tie as tie
-use Rattle.pile.proofs.lists.Reads as lists-reads
-use Rattle.table.proofs.fill_table.Reads as fill-table-reads
 
 -- once the lists are made the reads are ready
 made : (c : tie.After-lists) → let a = c .before .before .before .before .before .before .before .args in Ready (a .shape) (a .reads .now) (a .places .now) (c .lists .last .1 .1 .1 .0)

@@ -4,7 +4,6 @@ use mathlib.Core.Path.{refl}
 use Rattle.rooms.proofs.Laws.{any-reads-room}
 use Rattle.rooms.proofs.judgement.Statement.{statement}
 use Rattle.rooms.proofs.judgement.Tie as tie
-use Rattle.judging.proofs.judge.Reads as judge-reads
 
 slice-aggregate-judge : tie.Need-slice-aggregate-judge
 slice-aggregate-judge c = search needs

@@ -4,7 +4,6 @@ use mathlib.Core.Path.{refl}
 use Rattle.rooms.proofs.Laws.{few-reads-room}
 use Rattle.rooms.proofs.small.Statement.{statement}
 use Rattle.rooms.proofs.small.Tie as tie
-use Rattle.solve.proofs.solve.Reads as solve-reads
 
 slice-aggregate-solve : tie.Need-slice-aggregate-solve
 slice-aggregate-solve c = search needs

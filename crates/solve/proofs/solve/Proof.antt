@@ -1,13 +1,11 @@
 use borrow.Author.Needs.{needs}
-use native.Mathlib.Omega.{arith}
 use mathlib.Core.Path.{subst}
+use Rattle.meaning.specs.Letters.{modeOf}
 use Rattle.layout.specs.Reads.{matrixIn}
 use Rattle.ready.specs.Piling.{ColumnsFound}
 use Rattle.solve.proofs.Calls.{crowded-call}
 use Rattle.solve.proofs.solve.Statement.{statement}
 use Rattle.solve.proofs.solve.Tie as tie
-use Rattle.ready.proofs.piled.Reads as piled-reads
-use Rattle.solve.proofs.sized.Reads as sized-reads
 
 piled-requires : tie.Need-piled-requires
 piled-requires c κs = let s = c .before .before .before .before .before .before .before .before in (s .pre .0, ((s .pre .1 .places-room, s .pre .1 .lists-room), s .pre .1 .lists-empty))
@@ -35,7 +33,7 @@ returns c =
     let s = c .before .before .before .before .before .before .before .before .before .before .before .before .before .before .before .before in
     let q = c .before .before .before .before .before .before .before .piled in
     let M = matrixIn (s .args .shape) (s .args .reads .now) in
-    crowded-call M (s .args .work .now) (s .args .out .now) ((c .before) .c .given .0 .0) (subst (ColumnsFound M) ((c .before) .c .given .1) (q .ensures .1))
+    crowded-call (modeOf (s .args .heterozygous)) M (s .args .work .now) (s .args .out .now) ((c .before) .c .given .0 .0) (subst (ColumnsFound M) ((c .before) .c .given .1) (q .ensures .1))
 
 same-length-3 : tie.Need-same-length-3
 same-length-3 c = search needs

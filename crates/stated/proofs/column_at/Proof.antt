@@ -52,7 +52,7 @@ index-2-t36 c = search needs
 returns : tie.Need-returns
 returns c =
     let s = c .before .before .before .before .before .before .before .before .before .before .before .before in
-    stands _ (s .args .answer .now) (s .args .shape .m) (s .args .shape .n) (s .args .j) _ (s .pre .1 .0) ((c .before .before .before .before .before .before .before .before) .sums .ensures _ _ (s .pre .0) (s .pre .1 .1))
+    stands _ (s .args .answer .now) (s .args .shape .m) (s .args .shape .n) (s .args .j) _ (s .pre .1 .0) ((c .before .before .before .before .before .before .before .before) .sums .ensures .0 _ _ (s .pre .0) (s .pre .1 .1))
 
 pub column-at-spec : {M : Type 1} → statement M
 column-at-spec =

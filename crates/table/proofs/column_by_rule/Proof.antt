@@ -4,6 +4,7 @@ use Prim.Native.Nat.{ℕ, _*_, _≤_}
 use mathlib.Core.Path.{_≡_, ap, _∙_}
 use mathlib.Core.List.{List}
 use lib.ListN.{length}
+use Rattle.meaning.specs.Letters.{chargeIn, modeOf}
 use Rattle.meaning.specs.Call.{laid}
 use Rattle.layout.specs.Reads.{matrixIn}
 use Rattle.table.specs.Taken.{sharedBefore, TakenBefore}
@@ -13,10 +14,6 @@ use Rattle.table.proofs.Columns.{cells-laid, shared-are, fill-fits, pas
 use Rattle.table.proofs.Filled.{before-fits, before-over}
 use Rattle.table.proofs.column_by_rule.Statement.{statement}
 use Rattle.table.proofs.column_by_rule.Tie as tie
-use Rattle.cells.proofs.prepare.Reads as prepare-reads
-use Rattle.column.proofs.fill.Reads as fill-reads
-use Rattle.plain.proofs.index.Reads as index-reads
-use Rattle.table.proofs.take_over.Reads as take-over-reads
 
 -- the plain numbers of column j
 sizes : (c : tie.Start) → ColumnSizes (c .args .shape) (c .args .reads .now) (c .args .places .now) (c .args .lists .now) (c .pre .0) (c .args .at .j) (c .args .at .t)
@@ -120,10 +117,10 @@ returns c =
     let g = c .before .before .before .before .before .before .before .before .before .before .before .before .prepare in
     let o = c .before .before .before .before .before .before .before .before .before in
     let f = c .before .before .fill in (
-      pass-laid _ _ _ _ (s .pre .0) (s .args .at .j) (s .pre .1 .0 .0) (w .result) (w .ensures .0) (s .args .at .t) (s .pre .1 .0 .1) (g .last .1 .1 .1 .1 .1 .1 .0) (g .last .1 .1 .1 .1 .1 .1 .1 .0)
-          (o .take-over .last .1 .1 .1 .1 .1 .0) (s .args .work .now) (f .last .1 .1 .1 .1 .0) (s .pre .1 .1 .0 .1) (g .ensures .1 .0) (g .ensures .1 .1 .1 .0) (f .ensures)
+      pass-laid _ _ _ _ (s .pre .0) (s .args .at .j) (s .pre .1 .0 .0) (w .result) (w .ensures .0) (modeOf (s .args .at .heterozygous) .charged) (s .args .at .t) (s .pre .1 .0 .1) (g .last .1 .1 .1 .1 .1 .1 .0) (g .last .1 .1 .1 .1 .1 .1 .1 .0)
+          (o .take-over .last .1 .1 .1 .1 .1 .0) (s .args .work .now) (f .last .1 .1 .1 .1 .1 .0) (s .pre .1 .1 .0 .1) (g .ensures .1 .0) (g .ensures .1 .1 .1 .0) (f .ensures)
           ∙ ap (λ (x : List ℕ). laid (s .args .at .j * s .args .at .t) x (s .args .work .now))
-          (before-over (matrixIn (s .args .shape) (s .args .reads .now)) (s .args .at .j) (s .args .work .now) (o .take-over .last .1 .1 .1 .1 .1 .0) (taken o)),
+          (before-over (chargeIn (modeOf (s .args .at .heterozygous))) (matrixIn (s .args .shape) (s .args .reads .now)) (s .args .at .j) (s .args .work .now) (o .take-over .last .1 .1 .1 .1 .1 .0) (taken o)),
       g .ensures .1 .1 .1 .1,
     )
 

@@ -1,11 +1,11 @@
 use borrow.Author.Needs.{needs}
 use native.Mathlib.Omega.{arith}
-use Prim.Native.Nat.{ℕ, suc, _+_, _-_, _*_, _/_, _≤_, _<_}
+use Prim.Native.Nat.{ℕ, suc, _-_, _*_, _/_, _≤_, _<_}
 use mathlib.Core.Path.{_≡_, sym, ap, _∙_, subst}
 use native.Mathlib.Nat.{le-trans, le-of-eq}
 use mathlib.Core.List.{List}
 use lib.ListN.{length, take, drop}
-use lib.Pow.{pow-mono, pow-pos}
+use lib.Pow.{pow-pos}
 use lib.Seq.{getD-set-same}
 use Rattle.meaning.specs.Active.{used}
 use Rattle.meaning.specs.Rule.{leastAt}
@@ -13,9 +13,6 @@ use Rattle.layout.specs.Lists.{countAt}
 use Rattle.table.proofs.Handed.{carry-fits, handed-on, handed-none, handed-next}
 use Rattle.table.proofs.take_over.Statement.{statement}
 use Rattle.table.proofs.take_over.Tie as tie
-use Rattle.carry.proofs.carry.Reads as carry-reads
-use Rattle.plain.proofs.entries.Reads as entries-reads
-use Rattle.plain.proofs.index.Reads as index-reads
 
 -- there is room for what is handed on
 some : (c : tie.Start) → 0 < length (c .args .taken .now)

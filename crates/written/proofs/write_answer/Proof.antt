@@ -6,18 +6,16 @@ use mathlib.Core.List.{List, _++_}
 use native.Mathlib.Nat.{le-trans, le-of-eq}
 use lib.ListN.{length, take, drop, length-drop}
 use lib.Seq.{length-take-le}
-use Rattle.meaning.specs.Charge.{charge, leastCost, best}
+use Rattle.meaning.specs.Charge.{leastCost, best}
+use Rattle.meaning.specs.Letters.{chargeIn, modeOf}
 use Rattle.meaning.specs.Answer.{sidesOf}
 use Rattle.meaning.specs.Call.{laid}
+use Rattle.meaning.proofs.Heterozygous.{mode-fair}
 use Rattle.layout.specs.Reads.{matrixIn}
 use Rattle.layout.proofs.Laws.{count-is, lawful-placed, ready-thin}
 use Rattle.written.proofs.Answered.{cost-is, sides-are, sides-laid, sides-size, output-length, finished}
 use Rattle.written.proofs.write_answer.Statement.{statement}
 use Rattle.written.proofs.write_answer.Tie as tie
-use Rattle.answer.proofs.put_head.Reads as put-head-reads
-use Rattle.sides.proofs.least_last.Reads as least-last-reads
-use Rattle.sides.proofs.write_sides.Reads as write-sides-reads
-use Rattle.written.proofs.write_letters.Reads as write-letters-reads
 
 -- the sides lie in the output
 room : (c : tie.Start) → 17 + c .args .shape .n ≤ length (c .args .out .now)
@@ -36,14 +34,14 @@ after-sides : (c : tie.After-write-sides) → let s = c .before .before .before 
     length (take 17 (s .args .out .now) ++ (c .write-sides .last .1 .1 .1 .1 .1 .1 .0 ++ drop (17 + s .args .shape .n - 17) (drop 17 (s .args .out .now)))) ≡ length (s .args .out .now)
 after-sides c = let s = c .before .before .before .before .before .before .before .before .before in output-length (s .args .shape .n) (c .write-sides .last .1 .1 .1 .1 .1 .1 .0) (s .args .out .now) (sides-kept c) (room s)
 
-after-letters : (c : tie.After-write-letters) → let s = c .before .before .before .before .before .before .before .before .before .before .before .before .before .before .before in length (c .write-letters .last .1 .1 .1 .1 .0) ≡ length (s .args .out .now)
-after-letters c = c .write-letters .kept .1 .1 .1 .1 .0 ∙ after-sides (c .before .before .before .before .before .before)
+after-letters : (c : tie.After-write-letters) → let s = c .before .before .before .before .before .before .before .before .before .before .before .before .before .before .before in length (c .write-letters .last .1 .1 .1 .1 .1 .0) ≡ length (s .args .out .now)
+after-letters c = c .write-letters .kept .1 .1 .1 .1 .1 .0 ∙ after-sides (c .before .before .before .before .before .before)
 
 -- the least entry is the cost
-cost : (c : tie.After-least-last) → let s = c .before .before .before .before .before .before .before .before .before .before .before .before .before .before .before .before .before .before .before .before in c .least-last .result ≡ leastCost charge (matrixIn (s .args .shape) (s .args .reads .now))
+cost : (c : tie.After-least-last) → let s = c .before .before .before .before .before .before .before .before .before .before .before .before .before .before .before .before .before .before .before .before in c .least-last .result ≡ leastCost (chargeIn (modeOf (s .args .heterozygous))) (matrixIn (s .args .shape) (s .args .reads .now))
 cost c =
     let s = c .before .before .before .before .before .before .before .before .before .before .before .before .before .before .before .before .before .before .before .before in
-    c .least-last .ensures ∙ cost-is _ (lawful-placed _ _ (s .pre .0 .lawful)) (s .pre .0 .lawful .some-column) (s .args .work .now) (s .pre .1 .0 .1)
+    c .least-last .ensures ∙ cost-is _ (mode-fair (s .args .heterozygous)) _ (lawful-placed _ _ (s .pre .0 .lawful)) (s .pre .0 .lawful .some-column) (s .args .work .now) (s .pre .1 .0 .1)
 
 add-e : tie.Need-add-e
 add-e c = search needs
@@ -106,9 +104,9 @@ returns c =
     let n = s .args .shape .n in
     let written = w .write-sides .last .1 .1 .1 .1 .1 .1 .0 in
     let size = sides-size n written out (sides-kept w) (room s) in
-    let sides : written ≡ sidesOf M (best charge M) = w .write-sides .ensures ∙ sides-are M (lawful-placed _ _ (s .pre .0 .lawful)) (s .args .work .now) (s .pre .1 .0 .1) in (
+    let sides : written ≡ sidesOf M (best (chargeIn (modeOf (s .args .heterozygous))) M) = w .write-sides .ensures ∙ sides-are _ (mode-fair (s .args .heterozygous)) M (lawful-placed _ _ (s .pre .0 .lawful)) (s .args .work .now) (s .pre .1 .0 .1) in (
       cost f,
-      finished M n (s .args .shape .m) (f .least-last .result) (l .result) out (take 17 out ++ (written ++ drop (17 + n - 17) (drop 17 out))) (l .last .1 .1 .1 .1 .0) (p .last .0)
+      finished (modeOf (s .args .heterozygous)) M n (s .args .shape .m) (f .least-last .result) (l .result) out (take 17 out ++ (written ++ drop (17 + n - 17) (drop 17 out))) (l .last .1 .1 .1 .1 .1 .0) (p .last .0)
           (sym (count-is (s .args .shape) (s .args .reads .now))) refl (s .pre .1 .1 .1) (sides-laid n written out size (room s) ∙ ap (λ (x : List ℕ). laid 17 x out) sides)
           (l .ensures .0) (l .ensures .1) (cost f) (p .ensures),
     )

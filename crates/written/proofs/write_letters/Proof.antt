@@ -1,22 +1,20 @@
-use borrow.Author.Needs.{needs}
 use native.Mathlib.Omega.{arith}
-use Prim.Native.Nat.{ℕ, _+_, _-_, _*_, _<_, _≤_}
-use mathlib.Core.Path.{_≡_, refl, sym, _∙_}
+use Prim.Native.Nat.{_-_, _≤_}
+use mathlib.Core.Path.{_≡_, refl}
 use lib.ListN.{length, length-set}
+use Rattle.meaning.specs.Letters.{modeOf}
 use Rattle.layout.specs.Reads.{matrixIn}
 use Rattle.letters.specs.Lettered.{Lettered}
 use Rattle.written.specs.Output.{divisionIn}
 use Rattle.written.proofs.Lettering.{sides-length, sides-lettered, Written, written-none, written-more, written-all}
 use Rattle.written.proofs.write_letters.Statement.{statement}
 use Rattle.written.proofs.write_letters.Tie as tie
-use Rattle.letters.proofs.letters_at.Reads as letters-at-reads
-use Rattle.tally.proofs.tally.Reads as tally-reads
 
 abbrev Inv-loop : tie.InvT-loop
-Inv-loop shape reads places tally out₀ n m z flips₀ j₀ out flips j = Written (matrixIn shape reads) (shape .n) (shape .m) out₀ out flips j
+Inv-loop shape reads places heterozygous tally out₀ n m z flips₀ j₀ out flips j = Written (modeOf heterozygous) (matrixIn shape reads) (shape .n) (shape .m) out₀ out flips j
 
 abbrev μ-loop : tie.MeasureT-loop
-μ-loop shape reads places tally out₀ n m z flips₀ j₀ out flips j = shape .m - j
+μ-loop shape reads places heterozygous tally out₀ n m z flips₀ j₀ out flips j = shape .m - j
 
 -- the plain numbers
 sizes : (c : tie.Start Inv-loop μ-loop) → (c .args .shape .m ≤ 1024) × (c .args .shape .n ≤ 1024)
@@ -31,10 +29,10 @@ written : (c : tie.Then1 Inv-loop μ-loop) → let s = c .before .before .before
 written c = c .before .before .loop .inv .same-length
 
 -- the letters and the flips of the column
-told : (c : tie.After-struct-known2 Inv-loop μ-loop) → let a = c .before .before .before .before .before .before .before .before .before .before .before .before .before .before .before .before .args in Lettered (matrixIn (a .shape) (a .reads .now)) (divisionIn (a .shape .n) (a .out .now)) ((c .before .before .before .before .before) .loop .j) ((c .before) .letters-at .result)
+told : (c : tie.After-struct-known2 Inv-loop μ-loop) → let a = c .before .before .before .before .before .before .before .before .before .before .before .before .before .before .before .before .args in Lettered (modeOf (a .heterozygous)) (matrixIn (a .shape) (a .reads .now)) (divisionIn (a .shape .n) (a .out .now)) ((c .before .before .before .before .before) .loop .j) ((c .before) .letters-at .result)
 told c =
     let s = c .before .before .before .before .before .before .before .before .before .before .before .before .before .before .before .before in
-    sides-lettered (s .args .shape .n) (s .args .out .now) (matrixIn (s .args .shape) (s .args .reads .now)) _ ((c .before .before .before .before .before .before .before .before) .tally .ensures) ((c .before .before .before .before .before) .loop .j) ((c .before .before .before) .if1 .taken) _ ((c .before) .letters-at .ensures)
+    sides-lettered (s .args .shape .n) (s .args .out .now) (modeOf (s .args .heterozygous)) (matrixIn (s .args .shape) (s .args .reads .now)) _ ((c .before .before .before .before .before .before .before .before) .tally .ensures) ((c .before .before .before .before .before) .loop .j) ((c .before .before .before) .if1 .taken) _ ((c .before) .letters-at .ensures)
 
 add-z : tie.Need-add-z Inv-loop μ-loop
 add-z c = omega (arith, sizes (c .before .before .before .before))
@@ -55,7 +53,7 @@ tally-requires c κs =
     ((s .pre .0 .0, s .pre .0 .1), (s .pre .1 .0, (omega arith, s .pre .1 .1 .1)))
 
 loop-holds : tie.Need-loop-holds Inv-loop μ-loop
-loop-holds c = let s = c .before .before .before .before .before .before .before .before .before .before in written-none _ (s .args .shape .n) (s .args .shape .m) (s .args .out .now) (s .pre .1 .1 .0)
+loop-holds c = let s = c .before .before .before .before .before .before .before .before .before .before in written-none _ _ (s .args .shape .n) (s .args .shape .m) (s .args .out .now) (s .pre .1 .1 .0)
 
 letters-at-requires : tie.Need-letters-at-requires Inv-loop μ-loop
 letters-at-requires c κs = let s = c .before .before .before .before .before .before .before .before .before .before .before .before .before .before in omega (arith, tally-kept (c .before .before .before .before .before .before), s .pre .1 .1 .1, (c .before) .if1 .taken)
@@ -94,7 +92,7 @@ loop-again : tie.Need-loop-again Inv-loop μ-loop
 loop-again c =
     let s = c .before .before .before .before .before .before .before .before .before .before .before .before .before .before .before .before in
     let l = c .before .before .before .before .before .loop in
-    written-more _ (s .args .shape .n) (s .args .shape .m) (s .args .out .now) (s .pre .1 .1 .0) (l .out) (l .flips) (l .j) (l .inv) ((c .before .before .before) .if1 .taken) _ (told c)
+    written-more _ _ (s .args .shape .n) (s .args .shape .m) (s .args .out .now) (s .pre .1 .1 .0) (l .out) (l .flips) (l .j) (l .inv) ((c .before .before .before) .if1 .taken) _ (told c)
 
 same-length : tie.Need-same-length Inv-loop μ-loop
 same-length c = tally-kept (c .before .before .before .before .before)
@@ -106,7 +104,7 @@ returns : tie.Need-returns Inv-loop μ-loop
 returns c =
     let s = c .before .before .before .before .before .before .before .before .before .before .before .before .before in
     let l = c .before .before .loop in
-    written-all _ (s .args .shape .n) (s .args .shape .m) (s .args .out .now) (s .pre .1 .1 .0) (l .out) (l .flips) (l .j) (l .inv) refl (c .if1 .left)
+    written-all _ _ (s .args .shape .n) (s .args .shape .m) (s .args .out .now) (s .pre .1 .1 .0) (l .out) (l .flips) (l .j) (l .inv) refl (c .if1 .left)
 
 pub write-letters-spec : {M : Type 1} → statement M
 write-letters-spec =

@@ -7,35 +7,34 @@ use lib.Pow.{pow-mono}
 use mathlib.Core.Path.{_≡_, refl, ap, _∙_}
 use Rattle.meaning.specs.Active.{used}
 use Rattle.plain.proofs.Laws.{one-shl}
-use Rattle.column.specs.Walk.{At, Walked}
+use Rattle.column.specs.Walk.{levelAt, At, Walked}
 use Rattle.column.proofs.Laws.{and-one}
 use Rattle.column.proofs.Steps.{used-small, used-four, used-fours, step-inside, step-outside, at-start, at-fits, walked-start, walked-all, first-turns}
 use Rattle.column.proofs.walk.pass.Statement.{statement}
 use Rattle.column.proofs.walk.pass.Tie as tie
 
 abbrev Inv-loop : tie.InvT-loop
-Inv-loop w turn p taken part₀ s₀ k₀ q₀ n₀ d₀ part s k q n d =
-    (0 < n) × (n % 4 ≡ 0) × (n ≤ used p) × (d ≡ trailingZeros 64 n) × (length part ≡ length part₀) × Walked w turn p taken n part s k q
+Inv-loop w turn col taken part₀ p s₀ k₀ q₀ n₀ d₀ part s k q n d =
+    (0 < n) × (n % 4 ≡ 0) × (n ≤ used (col .p)) × (d ≡ trailingZeros 64 n) × (length part ≡ length part₀) × Walked w turn (col .p) (levelAt (col .heterozygous) w (col .p)) taken n part s k q
 
 abbrev μ-loop : tie.MeasureT-loop
-μ-loop w turn p taken part₀ s₀ k₀ q₀ n₀ d₀ part s k q n d = used p - n
-
-sums-requires : tie.Need-sums-requires Inv-loop μ-loop
-sums-requires c κs = search needs
+μ-loop w turn col taken part₀ p s₀ k₀ q₀ n₀ d₀ part s k q n d = used (col .p) - n
 
 -- index 0
-first : (c : tie.After-sums Inv-loop μ-loop) → At (c .before .before .before .args .w .now) (c .before .before .before .args .turn .now) (c .before .before .before .args .p) (c .before .before .before .args .taken .now) (c .sums .result) 0 0
-first c = let s = c .before .before .before in at-start (s .pre .0 .0) (s .pre .0 .1) (s .pre .1 .0) (c .sums .ensures)
+first : (c : tie.Start Inv-loop μ-loop) → At (c .args .w .now) (c .args .turn .now) (c .args .c .p) (levelAt (c .args .c .heterozygous) (c .args .w .now) (c .args .c .p)) (c .args .taken .now) (c .args .start) 0 0
+first c = at-start (c .pre .0 .0) (c .pre .0 .1) (c .pre .1 .0 .0) (c .pre .1 .0 .1) (c .pre .1 .1 .1)
 
 entry-requires : tie.Need-entry-requires Inv-loop μ-loop
-entry-requires c κs = at-fits (first c)
+entry-requires c κs = at-fits (first (c .before .before))
 
 slice-write-part : tie.Need-slice-write-part Inv-loop μ-loop
-slice-write-part c = omega (arith, first (c .before) .below, c .before .before .before .before .pre .1 .1)
+slice-write-part c = let s = c .before .before .before in omega (arith, first s .below, s .pre .1 .1 .0)
 
 -- its entry is written
-begun : (c : tie.After-entry Inv-loop μ-loop) → Walked (c .before .before .before .before .args .w .now) (c .before .before .before .before .args .turn .now) (c .before .before .before .before .args .p) (c .before .before .before .before .args .taken .now) 1 (set (c .before .before .before .before .args .part .now) 0 (c .entry .result)) (c .before .sums .result) 0 0
-begun c = let s = c .before .before .before .before in walked-start (s .args .w .now) (s .args .turn .now) (s .args .taken .now) (s .args .part .now) (s .args .p) (first (c .before)) (s .pre .1 .1) _ (c .entry .ensures)
+begun : (c : tie.After-entry Inv-loop μ-loop)
+    → Walked (c .before .before .before .args .w .now) (c .before .before .before .args .turn .now) (c .before .before .before .args .c .p) (levelAt (c .before .before .before .args .c .heterozygous) (c .before .before .before .args .w .now) (c .before .before .before .args .c .p)) (c .before .before .before .args .taken .now) 1
+    (set (c .before .before .before .args .part .now) 0 (c .entry .result)) (c .before .before .before .args .start) 0 0
+begun c = let s = c .before .before .before in walked-start (s .args .w .now) (s .args .turn .now) (levelAt (s .args .c .heterozygous) (s .args .w .now) (s .args .c .p)) (s .args .taken .now) (s .args .part .now) (s .args .c .p) (first s) (s .pre .1 .1 .0) _ (c .entry .ensures)
 
 step-requires : tie.Need-step-requires Inv-loop μ-loop
 step-requires c κs = first-turns (c .before .if2 .taken) (begun (c .before .before .before))
@@ -51,7 +50,7 @@ same-length-2 c = search needs
 
 returns-2 : tie.Need-returns-2 Inv-loop μ-loop
 returns-2 c =
-    let few : c .before .before .before .before .before .before .args .p - 1 ≤ 0 = omega (arith, c .if2 .left) in
+    let few : c .before .before .before .before .before .args .c .p - 1 ≤ 0 = omega (arith, c .if2 .left) in
     walked-all (begun (c .before .before)) (pow-mono few)
 
 three-requires : tie.Need-three-requires Inv-loop μ-loop
@@ -65,14 +64,14 @@ element-copy-out-q c = search needs
 loop-holds : tie.Need-loop-holds Inv-loop μ-loop
 unfolding trailingZeros
 loop-holds c =
-    let s = c .before .before .before .before .before .before .before .before .before .before in
-    (omega arith, refl, used-four (s .args .p) (omega (arith, c .before .before .before .before .before .if1 .left)), refl, refl, c .before .before .before .three .ensures)
+    let s = c .before .before .before .before .before .before .before .before .before in
+    (omega arith, refl, used-four (s .args .c .p) (omega (arith, c .before .before .before .before .before .if1 .left)), refl, refl, c .before .before .before .three .ensures)
 
 sub-loop : tie.Need-sub-loop Inv-loop μ-loop
 sub-loop c = omega (arith, c .before .before .before .before .before .before .if1 .left)
 
 -- step n is one of the walk's, and so are the three after it
-below : (c : tie.In-loop Inv-loop μ-loop) → (c .before .loop .n + 3 < used (c .before .before .before .before .before .before .before .before .before .before .before .before .args .p)) × (used (c .before .before .before .before .before .before .before .before .before .before .before .before .args .p) ≤ 2048)
+below : (c : tie.In-loop Inv-loop μ-loop) → (c .before .loop .n + 3 < used (c .before .before .before .before .before .before .before .before .before .before .before .args .c .p)) × (used (c .before .before .before .before .before .before .before .before .before .before .before .args .c .p) ≤ 2048)
 below c =
     let l = c .before .loop in
     let few = l .inv .5 .at .few in
@@ -146,7 +145,6 @@ pass-spec =
     (tie.spec
     Inv-loop
     μ-loop
-    sums-requires
     entry-requires
     slice-write-part
     step-requires

@@ -5,7 +5,7 @@ use lib.Bits.{bitXor}
 use lib.ListN.{getD}
 use mathlib.Core.Path.{_≡_, ap}
 use Rattle.plain.proofs.Laws.{one-shl}
-use Rattle.column.specs.Walk.{At}
+use Rattle.column.specs.Walk.{levelAt, At}
 use Rattle.column.proofs.Steps.{used-small, digit-below, step-movable, step-at, at-fits, walked-step}
 use Rattle.column.proofs.walk.step.Statement.{statement}
 use Rattle.column.proofs.walk.step.Tie as tie
@@ -31,7 +31,7 @@ turned : (c : tie.Start) → bitXor (c .args .x .k) (1 * 2 ^ c .args .d % 2 ^ 64
 turned c = ap (bitXor (c .args .x .k)) (one-shl (c .args .d) (omega (arith, small c)))
 
 next : (c : tie.After-moved)
-    → At (c .before .before .before .before .args .w .now) (c .before .before .before .before .args .turn .now) (c .before .before .before .before .args .p) (c .before .before .before .before .args .taken .now) (c .moved .result)
+    → At (c .before .before .before .before .args .w .now) (c .before .before .before .before .args .turn .now) (c .before .before .before .before .args .c .p) (levelAt (c .before .before .before .before .args .c .heterozygous) (c .before .before .before .before .args .w .now) (c .before .before .before .before .args .c .p)) (c .before .before .before .before .args .taken .now) (c .moved .result)
     (bitXor (c .before .before .before .before .args .x .k) (1 * 2 ^ c .before .before .before .before .args .d % 2 ^ 64)) (bitXor (c .before .before .before .before .args .x .q) (getD (c .before .before .before .before .args .turn .now) (c .before .before .before .before .args .d + 1) 0))
 next c = let s = c .before .before .before .before in step-at (s .pre) _ (turned s) _ (c .moved .ensures)
 

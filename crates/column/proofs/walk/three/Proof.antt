@@ -12,7 +12,7 @@ use Rattle.column.proofs.walk.three.Tie as tie
 
 -- the steps' numbers are small
 small : (c : tie.Start) → c .args .x .n < 2048
-small c = omega (arith, c .pre .2, used-small (c .args .p) (c .pre .3 .at .few))
+small c = omega (arith, c .pre .2, used-small (c .args .c .p) (c .pre .3 .at .few))
 
 add-n1 : tie.Need-add-n1
 add-n1 c = omega (arith, small (c .before .before))

@@ -1,34 +1,49 @@
-// `phase` reads a fragment block from standard input and prints five lines, or one that says why it is refused.
+// `phase` reads a fragment block from standard input and prints five lines, or one that says why it is refused. With `--all-het` the two
+// haplotypes differ at every column.
 
-// Says which argument is not known: there is none.
-fn unknown_argument() {
-    let mut name = io::buffer();
-    let n = os::arg(1, &mut name);
+// Says which argument is not known.
+fn unknown_argument(name: &[u8]) {
     files::say(
         b"phase",
-        &name[..n],
-        b"unknown argument; usage: phase < BLOCK",
+        name,
+        b"unknown argument; usage: phase [--all-het] < BLOCK",
     );
 }
 
 // Prints the text for this input.
-fn print_answer(input: &[u8]) {
+fn print_answer(input: &[u8], heterozygous: bool) {
     let mut page = [0u8; 4096];
-    let n = reply::respond(input, &mut page);
+    let n = reply::respond(input, heterozygous, &mut page);
     files::print(b"phase", &page[0..n]);
 }
 
-// A byte more than 65,536 tells that the input is too long.
-fn main() {
-    if os::arg_count() > 1 {
-        unknown_argument();
-        return;
-    }
+// Reads the block and prints its answer. A byte more than 65,536 tells that the input is too long.
+fn phase(heterozygous: bool) {
     let mut input = [0u8; 65537];
     let got = files::read_input(b"phase", &mut input);
     if got < 0 {
         return;
     }
     let n = io::count(got, &input);
-    print_answer(&input[..n]);
+    print_answer(&input[..n], heterozygous);
+}
+
+// Without arguments in the general mode, with `--all-het` alone in the all-heterozygous one.
+fn main() {
+    if os::arg_count() < 2 {
+        phase(false);
+        return;
+    }
+    let mut name = io::buffer();
+    let n = os::arg(1, &mut name);
+    if !options::all_het(&name[..n]) {
+        unknown_argument(&name[..n]);
+        return;
+    }
+    if os::arg_count() > 2 {
+        let k = os::arg(2, &mut name);
+        unknown_argument(&name[..k]);
+        return;
+    }
+    phase(true);
 }

@@ -7,9 +7,9 @@ use lib.ListN.{length}
 use lib.Dec.{eqb}
 use borrow.Author.Tests.{eqb-true, eqb-false, lt-ltb, le-ltb}
 use Rattle.meaning.specs.Block.{latest}
-use Rattle.meaning.specs.Letters.{general}
+use Rattle.meaning.specs.Letters.{Mode, modeOf}
 use Rattle.meaning.specs.Refusals.{refusal}
-use Rattle.meaning.specs.Call.{Result, refuses, call}
+use Rattle.meaning.specs.Call.{Result, refuses, callWith}
 use Rattle.meaning.proofs.Formed.{accepted}
 use Rattle.meaning.proofs.Call.{call-refuses}
 use Rattle.text.specs.Text.{refusalText, textOf}
@@ -17,24 +17,33 @@ use Rattle.text.specs.Put.{Whole}
 use Rattle.text.proofs.Accepted.{accepted-whole}
 use Rattle.reply.specs.Printed.{lent, printed}
 
-module _ (b work out : List ℕ) where
+module _ (mode : Mode) (b work out : List ℕ) where
   -- number 0 is given only on acceptance, and the output then starts with the answer block
-  pub whole-out : call b work out .number ≡ 0 → Whole (call b work out .out)
-  unfolding call refuses
+  pub whole-out : callWith mode latest b work out .number ≡ 0 → Whole (callWith mode latest b work out .out)
+  unfolding refuses
   whole-out z = go (eqb (refusal latest b (length work) (length out) .number) 0) refl
     where
-      go : (t : Bool) → eqb (refusal latest b (length work) (length out) .number) 0 ≡ t → Whole (call b work out .out)
+      go : (t : Bool) → eqb (refusal latest b (length work) (length out) .number) 0 ≡ t → Whole (callWith mode latest b work out .out)
       go true e =
           let r : refusal latest b (length work) (length out) .number ≡ 0 = eqb-true _ 0 e in
-          accepted-whole general latest b work out (accepted latest b (length work) (length out) r)
+          accepted-whole mode latest b work out (accepted latest b (length work) (length out) r)
       go false e =
           let n : refusal latest b (length work) (length out) .number ≡ 0 → ⊥ = eqb-false _ 0 e in
-          absurd (n (sym (ap (λ (x : Result). x .number) (call-refuses general latest b work out n)) ∙ z))
+          absurd (n (sym (ap (λ (x : Result). x .number) (call-refuses mode latest b work out n)) ∙ z))
 
-pub printed-long : (input : List ℕ) → 65536 < length input → printed input ≡ refusalText 12 65536
-unfolding printed
-printed-long input l = ap (λ (t : Bool). cond t (refusalText 12 65536) (textOf (lent input .number) (lent input .second) (lent input .out))) (lt-ltb 65536 (length input) l)
+-- a call by its parts is the call in the mode of the flag
+pub phased-as : (b t : Bool) (input work out : List ℕ) (done r : Result) → b ≡ t → done ≡ callWith (modeOf t) latest input work out
+    → (r .number ≡ done .number) × ((r .second ≡ done .second) × ((r .work ≡ done .work) × (r .out ≡ done .out)))
+    → r ≡ callWith (modeOf b) latest input work out
+phased-as b t input work out done r e is h =
+    (λ i. record { number = h .0 i; second = h .1 .0 i; work = h .1 .1 .0 i; out = h .1 .1 .1 i })
+    ∙ is
+    ∙ ap (λ (x : Bool). callWith (modeOf x) latest input work out) (sym e)
 
-pub printed-call : (input : List ℕ) → length input ≤ 65536 → printed input ≡ textOf (lent input .number) (lent input .second) (lent input .out)
+pub printed-long : (mode : Mode) (input : List ℕ) → 65536 < length input → printed mode input ≡ refusalText 12 65536
 unfolding printed
-printed-call input l = ap (λ (t : Bool). cond t (refusalText 12 65536) (textOf (lent input .number) (lent input .second) (lent input .out))) (le-ltb 65536 (length input) l)
+printed-long mode input l = ap (λ (t : Bool). cond t (refusalText 12 65536) (textOf (lent mode input .number) (lent mode input .second) (lent mode input .out))) (lt-ltb 65536 (length input) l)
+
+pub printed-call : (mode : Mode) (input : List ℕ) → length input ≤ 65536 → printed mode input ≡ textOf (lent mode input .number) (lent mode input .second) (lent mode input .out)
+unfolding printed
+printed-call mode input l = ap (λ (t : Bool). cond t (refusalText 12 65536) (textOf (lent mode input .number) (lent mode input .second) (lent mode input .out))) (le-ltb 65536 (length input) l)

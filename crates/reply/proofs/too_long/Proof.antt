@@ -2,9 +2,6 @@ use Rattle.text.specs.Text.{textOf}
 use borrow.Author.Needs.{needs}
 use Rattle.reply.proofs.too_long.Statement.{statement}
 use Rattle.reply.proofs.too_long.Tie as tie
-use Rattle.reply.proofs.too_long.Reads as reads
-use Rattle.reply.proofs.too_long.Lts as lts
-use Rattle.text.proofs.write_text.Reads as write-text-reads
 
 slice-aggregate-write-text : tie.Need-slice-aggregate-write-text
 slice-aggregate-write-text c = search needs

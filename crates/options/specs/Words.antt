@@ -1,0 +1,7 @@
+-- The words that ask for something.
+use Prim.Native.Nat.{ℕ}
+use mathlib.Core.List.{List, [], _∷_}
+
+-- `--all-het`
+abbrev pub allHetWord : List ℕ
+allHetWord = 45 ∷ 45 ∷ 97 ∷ 108 ∷ 108 ∷ 45 ∷ 104 ∷ 101 ∷ 116 ∷ []

@@ -55,7 +55,8 @@
 
    5, 38, 6 and 7 are looked for read by read: the first read that gets one of them is the second number.
 
-   Verdicts on an answer. The first that applies is returned. "Ours" is what velejume_phase answers.
+   Verdicts on an answer. The first that applies is returned. "Ours" is what velejume_phase answers, so an answer of
+   velejume_phase_heterozygous is judged as any other program's.
 
    Number  Given                                                                     Second number
        50  malformed: under 17 bytes, version not 2, or a length field that is not   0
@@ -86,6 +87,14 @@ extern "C" {
    says how many bytes. */
 uint32_t velejume_phase(const uint8_t *block, size_t block_len, uint32_t *work, size_t work_len, uint8_t *out, size_t out_len,
                         uint32_t *second);
+
+/* Phases a fragment block in the all-heterozygous mode: the two haplotypes differ at every column. Rooms, refusals, layouts and what is kept are those
+   of velejume_phase, with another charge. Let W0 of a side be the weight of its entries with 1 at a column, and W1 that of its entries with 0: what a 0 or
+   a 1 written there would cost. A column costs the lesser of W0 of side 0 plus W1 of side 1, and W1 of side 0 plus W0 of side 1. Haplotype 1 has 0 there
+   if the first sum is smaller, otherwise 1, and haplotype 2 has the other letter; where the sums are equal both have 2, and flips are counted against 1
+   on side 0 and 0 on side 1. The cost is never below that of velejume_phase. */
+uint32_t velejume_phase_heterozygous(const uint8_t *block, size_t block_len, uint32_t *work, size_t work_len, uint8_t *out, size_t out_len,
+                                     uint32_t *second);
 
 /* Judges an answer block of version 2, of whatever program, to a fragment block. Returns a verdict, 50 to 57, with the table in the first m x T
    entries of work and the others kept, or the refusal of the fragment block, 1 to 10 or 38. */

@@ -13,6 +13,16 @@ unsafe extern "C" {
         second: *mut u32,
     ) -> u32;
 
+    fn velejume_phase_heterozygous(
+        block: *const u8,
+        block_len: usize,
+        work: *mut u32,
+        work_len: usize,
+        out: *mut u8,
+        out_len: usize,
+        second: *mut u32,
+    ) -> u32;
+
     fn velejume_judge(
         block: *const u8,
         block_len: usize,
@@ -34,7 +44,7 @@ pub struct Numbers {
 }
 
 impl Numbers {
-    /// Of [`phase_in`]: the cost on acceptance, else the refusal.
+    /// Of [`phase_in`] and [`phase_heterozygous_in`]: the cost on acceptance, else the refusal.
     pub fn cost(self) -> Result<u32, Refusal> {
         match self.number {
             0 => Ok(self.second),
@@ -74,19 +84,38 @@ impl Numbers {
 /// assert_eq!(refusal, Err(Refusal::OutputRoom { need: 20 }));
 /// ```
 pub fn phase_in(block: &[u8], work: &mut [u32], out: &mut [u8]) -> Numbers {
+    // SAFETY: the call is proved to stay within what it is lent
+    unsafe { phased(velejume_phase, block, work, out) }
+}
+
+/// Phases a fragment block in the all-heterozygous mode, where the haplotypes differ at every column, in rooms that the caller
+/// lends, of any size. Refusals, rooms and layouts are those of [`phase_in`].
+///
+/// ```
+/// use velejume::phase_heterozygous_in;
+///
+/// let block = [1, 0, 0, 0, 10, 0, 1, 0, 1, 0, 4, 0, 0, 0, 7]; // 0:7
+/// let (mut work, mut out) = ([9; 2], [9; 21]);
+/// assert_eq!(phase_heterozygous_in(&block, &mut work, &mut out).cost(), Ok(0));
+/// assert_eq!((work, &out[17..]), ([0, 9], &[0, 0, 1, 9][..])); // side 0, haplotypes 0 and 1
+/// ```
+pub fn phase_heterozygous_in(block: &[u8], work: &mut [u32], out: &mut [u8]) -> Numbers {
+    // SAFETY: the call is proved to stay within what it is lent
+    unsafe { phased(velejume_phase_heterozygous, block, work, out) }
+}
+
+/// A call that phases, under its C name.
+type Phase = unsafe extern "C" fn(*const u8, usize, *mut u32, usize, *mut u8, usize, *mut u32) -> u32;
+
+/// Lends a call that phases a block and two rooms.
+///
+/// # Safety
+/// The call stays within what it is lent, for every block and every length.
+unsafe fn phased(call: Phase, block: &[u8], work: &mut [u32], out: &mut [u8]) -> Numbers {
     let mut second = 0;
-    // SAFETY: each pointer stands with the length of its slice, and the slices do not overlap. The call is proved to stay
-    // within them for every block and every length.
+    // SAFETY: each pointer stands with the length of its slice, and the slices do not overlap
     let number = unsafe {
-        velejume_phase(
-            block.as_ptr(),
-            block.len(),
-            work.as_mut_ptr(),
-            work.len(),
-            out.as_mut_ptr(),
-            out.len(),
-            &mut second,
-        )
+        call(block.as_ptr(), block.len(), work.as_mut_ptr(), work.len(), out.as_mut_ptr(), out.len(), &mut second)
     };
     Numbers { number, second }
 }

@@ -1,9 +1,10 @@
 //! Haplotype phasing whose answer is proved to be the answer.
 //!
 //! [`phase`] takes a fragment block and gives the least cost, a side for each read, both haplotypes and the table, or says
-//! why the block is refused. [`judge`] takes a builder's answer beside it and gives the first verdict that applies.
-//! [`convert`] turns a block of version 1 into one of version 2 without its reads without cells.
-//! [`phase_in`], [`judge_in`] and [`convert_in`] are the proved calls themselves, for callers that lend their own rooms.
+//! why the block is refused; [`phase_heterozygous`] does the same for haplotypes that differ at every column. [`judge`] takes a
+//! builder's answer beside it and gives the first verdict that applies. [`convert`] turns a block of version 1 into one of
+//! version 2 without its reads without cells. [`phase_in`], [`phase_heterozygous_in`], [`judge_in`] and [`convert_in`] are the
+//! proved calls themselves, for callers that lend their own rooms.
 //!
 //! ```
 //! // the matrix of the WhatsHap paper's Figure 1: 0:5 . / 1:3 0:2 / 1:6 1:1 / . 0:2
@@ -34,7 +35,7 @@ mod refusal;
 mod verdict;
 
 pub use answer::{Answer, Letter, Table};
-pub use call::{Numbers, convert_in, judge_in, phase_in};
+pub use call::{Numbers, convert_in, judge_in, phase_heterozygous_in, phase_in};
 pub use refusal::Refusal;
 pub use verdict::Verdict;
 
@@ -61,15 +62,38 @@ pub const BLOCK_BYTES: usize = 9 + 1024 * (4 + 3 * 1024);
 /// assert_eq!(refusal.to_string(), "fewer than 9 bytes");
 /// ```
 pub fn phase(block: &[u8]) -> Result<Answer, Refusal> {
-    let mut work = match phase_in(block, &mut [], &mut []).cost() {
+    answered(phase_in, block)
+}
+
+/// Phases a fragment block in the all-heterozygous mode: the haplotypes differ at every column. A column is charged the lesser of
+/// what it costs to write 0 on haplotype 1 and 1 on haplotype 2 and what the other way round costs; both have [`Letter::Tie`] where
+/// these are equal. The cost is never below that of [`phase`], and refusals are the same.
+///
+/// ```
+/// let block = [1, 0, 0, 0, 16, 0, 1, 0, 2, 0, 4, 0, 0, 0, 5, 0, 4, 0, 0, 1, 3]; // 0:5 / 1:3
+/// let answer = velejume::phase_heterozygous(&block).unwrap();
+/// assert_eq!(answer.to_string(), "cost 0\nflips 0\nsides 01\nhap1 0\nhap2 1\n");
+///
+/// // the first column wants the reads apart, and at the second they then agree: 0:5 0:4 / 1:5 0:3
+/// let block = [1, 0, 0, 0, 20, 0, 2, 0, 2, 0, 6, 0, 0, 0, 5, 0, 4, 0, 6, 0, 0, 1, 5, 0, 3];
+/// assert_eq!(velejume::phase(&block).unwrap().cost, 0);
+/// assert_eq!(velejume::phase_heterozygous(&block).unwrap().cost, 3);
+/// ```
+pub fn phase_heterozygous(block: &[u8]) -> Result<Answer, Refusal> {
+    answered(phase_heterozygous_in, block)
+}
+
+/// The answer of a call that phases, in rooms as large as the call itself says that it needs.
+fn answered(call: fn(&[u8], &mut [u32], &mut [u8]) -> Numbers, block: &[u8]) -> Result<Answer, Refusal> {
+    let mut work = match call(block, &mut [], &mut []).cost() {
         Err(Refusal::WorkRoom { need }) => vec![0; need as usize],
         other => return Err(other.expect_err("no table fits into no room")),
     };
-    let mut out = match phase_in(block, &mut work, &mut []).cost() {
+    let mut out = match call(block, &mut work, &mut []).cost() {
         Err(Refusal::OutputRoom { need }) => vec![0; need as usize],
         other => return Err(other.expect_err("no answer fits into no room")),
     };
-    phase_in(block, &mut work, &mut out).cost()?;
+    call(block, &mut work, &mut out).cost()?;
     Ok(Answer::read(&out, work))
 }
 

@@ -1,7 +1,7 @@
 //! Each refusal with its words and its second number.
 
 use matrix::{VERSIONS, cell_bytes, parse};
-use velejume::{Refusal, convert, convert_in, judge, phase, phase_in};
+use velejume::{Refusal, convert, convert_in, judge, phase, phase_heterozygous, phase_heterozygous_in, phase_in};
 
 /// The block of `0:5 . 1:3 / 0:7` in a version, and where its second read begins.
 fn example(version: u8) -> (Vec<u8>, usize) {
@@ -54,6 +54,7 @@ fn each_refusal_of_a_block_has_its_words() {
         VERSIONS.into_iter().flat_map(|version| refused(version).into_iter().enumerate())
     {
         assert_eq!(phase(&block), Err(refusal), "{block:?}");
+        assert_eq!(phase_heterozygous(&block), Err(refusal), "{block:?}");
         assert_eq!(refusal.number(), i as u32 + 1);
         assert_eq!(refusal.to_string(), words);
     }
@@ -72,6 +73,7 @@ fn a_read_without_cells_is_refused_in_version_2() {
     let refusal = phase(&without(2)).unwrap_err();
     assert_eq!((refusal, refusal.number(), refusal.second()), (Refusal::NoCells { read: 1 }, 38, 1));
     assert_eq!(refusal.to_string(), "read 1: c = 0 in version 2");
+    assert_eq!(phase_heterozygous(&without(2)), Err(refusal));
     assert_eq!(judge(&without(2), b"no answer"), Err(refusal));
     assert_eq!(phase(&without(1)).unwrap().sides, [0, 0]);
 }
@@ -108,14 +110,16 @@ fn an_output_that_is_too_small_for_a_converting_is_refused_with_its_need() {
 
 #[test]
 fn rooms_that_are_too_small_are_refused_with_their_need() {
-    for (block, _) in VERSIONS.map(example) {
-        let work = phase_in(&block, &mut [0; 5], &mut [0; 25]).cost().unwrap_err();
+    for ((block, _), call) in
+        VERSIONS.into_iter().flat_map(|version| [phase_in, phase_heterozygous_in].map(|call| (example(version), call)))
+    {
+        let work = call(&block, &mut [0; 5], &mut [0; 25]).cost().unwrap_err();
         assert_eq!((work, work.number(), work.second()), (Refusal::WorkRoom { need: 6 }, 10, 6));
         assert_eq!(work.to_string(), "work room below m × T = 6 entries");
-        let out = phase_in(&block, &mut [0; 6], &mut [0; 24]).cost().unwrap_err();
+        let out = call(&block, &mut [0; 6], &mut [0; 24]).cost().unwrap_err();
         assert_eq!((out, out.number(), out.second()), (Refusal::OutputRoom { need: 25 }, 11, 25));
         assert_eq!(out.to_string(), "output below 17 + n + 2m = 25 bytes");
-        assert!(phase_in(&block, &mut [0; 6], &mut [0; 25]).cost().is_ok());
+        assert!(call(&block, &mut [0; 6], &mut [0; 25]).cost().is_ok());
     }
 }
 

@@ -68,6 +68,11 @@ impl Case {
         Case { kind, version, field, block, work, out }
     }
 
+    /// The sizes of both rooms.
+    pub fn rooms(&self) -> (usize, usize) {
+        (self.work.1, self.out.1)
+    }
+
     /// T, for a block that passes checks 1 to 9.
     pub fn width(&self) -> usize {
         let (entries, _) = solver::rooms(&self.block).expect("an accepted block");

@@ -3,21 +3,22 @@
 use crate::Case;
 use crate::rooms::Rooms;
 use blocks::Random;
-use solver::{Block, Numbers};
+use solver::{Block, Mode, Numbers, Phase};
 
-/// A call as document 01 has it.
-pub type Call = fn(&[u8], &mut [u32], &mut [u8]) -> Numbers;
-
-/// The proved call.
-pub fn proved(block: &[u8], work: &mut [u32], out: &mut [u8]) -> Numbers {
-    let numbers = velejume::phase_in(block, work, out);
+/// The proved call of a mode.
+pub fn proved(mode: Mode, block: &[u8], work: &mut [u32], out: &mut [u8]) -> Numbers {
+    let call = match mode {
+        Mode::General => velejume::phase_in,
+        Mode::Heterozygous => velejume::phase_heterozygous_in,
+    };
+    let numbers = call(block, work, out);
     (numbers.number, numbers.second)
 }
 
 /// What a call returns, and the rooms afterwards.
-fn called(call: Call, before: &Rooms) -> (Numbers, Rooms) {
+fn called(call: Phase, mode: Mode, before: &Rooms) -> (Numbers, Rooms) {
     let mut rooms = before.clone();
-    let numbers = call(rooms.block.lent(), rooms.work.lent(), rooms.out.lent());
+    let numbers = call(mode, rooms.block.lent(), rooms.work.lent(), rooms.out.lent());
     (numbers, rooms)
 }
 
@@ -62,30 +63,30 @@ fn same(name: &str, given: &(Numbers, Rooms), wanted: &(Numbers, Rooms)) -> Resu
     Ok(())
 }
 
-/// Compares a call with the independent solver, in rooms of these sizes. Gives the numbers and whether every division was
-/// tried for it, or what differs.
+/// Compares a call in a mode with the independent solver, in rooms of these sizes. Gives the numbers and whether every division
+/// was tried for it, or what differs.
 pub fn check(
-    call: Call,
+    call: Phase,
+    mode: Mode,
     block: &[u8],
-    work: usize,
-    out: usize,
+    (work, out): (usize, usize),
     random: &mut Random,
 ) -> Result<(Numbers, bool), String> {
     let before = Rooms::random(block, work, out, random);
-    let given = called(call, &before);
-    let fault = |fault: String| format!("{fault}; work {work}, out {out}, block {}", hexadecimal(block));
+    let given = called(call, mode, &before);
+    let fault = |fault: String| format!("{mode:?}: {fault}; work {work}, out {out}, block {}", hexadecimal(block));
     kept(block, &before, &given).map_err(fault)?;
-    same("columns", &given, &called(solver::columns, &before)).map_err(fault)?;
+    same("columns", &given, &called(solver::columns, mode, &before)).map_err(fault)?;
     let searched = searchable(block);
     if searched {
-        same("plain search", &given, &called(solver::exhaustive, &before)).map_err(fault)?;
+        same("plain search", &given, &called(solver::exhaustive, mode, &before)).map_err(fault)?;
     }
     Ok((given.0, searched && given.0.0 == 0))
 }
 
-/// The proved call, compared on a case.
-pub fn check_case(case: &Case, random: &mut Random) -> Result<(Numbers, bool), String> {
-    let checked = check(proved, &case.block, case.work.1, case.out.1, random);
+/// The proved call of a mode, compared on a case.
+pub fn check_case(mode: Mode, case: &Case, random: &mut Random) -> Result<(Numbers, bool), String> {
+    let checked = check(proved, mode, &case.block, case.rooms(), random);
     let Case { kind, version, field, .. } = case;
     checked.map_err(|fault| format!("{kind:?}, version {version}, damaged {field:?}: {fault}"))
 }

@@ -1,9 +1,9 @@
 //! An answer block in its parts, to be changed and laid out again.
 
 use matrix::Matrix;
-use solver::Stated;
+use solver::{Mode, Stated};
 
-/// By side, column and letter: the weight of the side's entries there that have this letter.
+/// By side, column and letter: something of the side's entries there that have this letter.
 pub type Sums = [Vec<[u32; 2]>; 2];
 
 #[derive(Clone)]
@@ -14,16 +14,43 @@ pub struct Parts {
     pub letters: [Vec<u8>; 2],
 }
 
+/// What the entries of a division of the reads weigh.
 pub fn sums(matrix: &Matrix, sides: &[u8]) -> Sums {
+    added(matrix, sides, u32::from)
+}
+
+/// How many entries there are in a division of the reads.
+pub fn counts(matrix: &Matrix, sides: &[u8]) -> Sums {
+    added(matrix, sides, |_| 1)
+}
+
+/// What a function makes of each entry's weight, added up.
+fn added(matrix: &Matrix, sides: &[u8], of: fn(u16) -> u32) -> Sums {
     let mut sums = [vec![[0; 2]; matrix.columns], vec![[0; 2]; matrix.columns]];
     for (row, &side) in matrix.rows.iter().zip(sides) {
         for (i, cell) in row.cells.iter().enumerate() {
             if let &Some((letter, weight)) = cell {
-                sums[usize::from(side)][row.first + i][usize::from(letter)] += u32::from(weight);
+                sums[usize::from(side)][row.first + i][usize::from(letter)] += of(weight);
             }
         }
     }
     sums
+}
+
+/// The two sums that the letters of each side are chosen from in a mode: its own, or with those of the other side, whose letter is
+/// the other one.
+pub fn choices(mode: Mode, sums: Sums) -> Sums {
+    match mode {
+        Mode::General => sums,
+        Mode::Heterozygous => {
+            let crossed = |side: usize| {
+                let both = sums[side].iter().zip(&sums[1 - side]);
+                both.map(|([zeros, ones], [other_zeros, other_ones])| [zeros + other_ones, ones + other_zeros])
+                    .collect()
+            };
+            [crossed(0), crossed(1)]
+        }
+    }
 }
 
 /// What a letter costs, by the weight of the entries with letter 0 and that of those with letter 1; a `-` either.
@@ -32,11 +59,11 @@ pub fn price(letter: u8, [zeros, ones]: [u32; 2]) -> u32 {
 }
 
 impl Parts {
-    /// The solver's answer; None where it refuses the block.
+    /// The solver's answer in the general mode; None where it refuses the block.
     pub fn ours(block: &[u8]) -> Option<Self> {
         let (entries, length) = solver::rooms(block).ok()?;
         let (mut work, mut out) = (vec![0; entries], vec![0; length]);
-        solver::columns(block, &mut work, &mut out);
+        solver::columns(Mode::General, block, &mut work, &mut out);
         let Stated { cost, flips, sides, letters } = Stated::read(&out)?;
         Some(Parts { cost, flips, sides: sides.to_vec(), letters: letters.map(<[u8]>::to_vec) })
     }

@@ -2,7 +2,7 @@
 
 use crate::{Case, Conversion, Judging};
 use blocks::{Field, Kind};
-use solver::Numbers;
+use solver::{Mode, Numbers};
 use std::collections::BTreeMap;
 use std::fmt;
 
@@ -27,8 +27,9 @@ impl Tally {
         }
     }
 
-    /// Notes a case and what came of it: the numbers and whether every division was tried, or what differs.
-    pub fn note(&mut self, case: &Case, checked: Result<(Numbers, bool), String>) {
+    /// Notes a case in a mode and what came of it: the numbers and whether every division was tried, or what differs.
+    pub fn note(&mut self, mode: Mode, case: &Case, checked: Result<(Numbers, bool), String>) {
+        self.count("mode", mode);
         self.count_block(case.kind, case.version, case.field);
         self.count("work room", case.work.0);
         self.count("output", case.out.0);

@@ -1,17 +1,20 @@
-//! Random blocks of both versions from fixed seeds, whole and damaged, in rooms of all sizes.
+//! Random blocks of both versions from fixed seeds, whole and damaged, in rooms of all sizes, phased in both modes.
 
 use blocks::{Field, Kind, Random};
 use differential::{Case, Size, Tally, check_case};
 use matrix::VERSIONS;
+use solver::Mode;
 
-/// So many cases of each kind with each damage, in one version.
+/// So many cases of each kind with each damage, in one version, each in both modes.
 fn tally(seed: u64, version: u8, kinds: &[Kind], fields: &[Option<Field>], times: usize) -> Tally {
     let mut random = Random::new(seed);
     let mut tally = Tally::default();
     for (&kind, &field) in kinds.iter().flat_map(|kind| fields.iter().map(move |field| (kind, field))) {
         for _ in 0..times {
             let case = Case::random(kind, version, field, &mut random);
-            tally.note(&case, check_case(&case, &mut random));
+            for mode in Mode::ALL {
+                tally.note(mode, &case, check_case(mode, &case, &mut random));
+            }
         }
     }
     println!("{tally}");

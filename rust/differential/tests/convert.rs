@@ -4,7 +4,7 @@ use blocks::{Field, Kind, Random};
 use differential::{Conversion, Convert, Size, Tally, check_conversion, check_convert, proved_convert};
 use matrix::{Matrix, Row};
 use solver::Numbers;
-use velejume::{BLOCK_BYTES, Letter, Refusal, convert, phase};
+use velejume::{Answer, BLOCK_BYTES, Letter, Refusal, convert, phase, phase_heterozygous};
 
 /// The numbers of a block in an output of this size, once both agree on them.
 fn numbers(block: &[u8], out: usize) -> Numbers {
@@ -105,12 +105,12 @@ fn kept(matrix: &Matrix) -> Matrix {
 }
 
 /// What both versions of a block get, but for the sides.
-fn rest(answer: &velejume::Answer) -> (u32, u32, &[Vec<Letter>; 2], &[u32]) {
+fn rest(answer: &Answer) -> (u32, u32, &[Vec<Letter>; 2], &[u32]) {
     (answer.cost, answer.flips, &answer.haplotypes, answer.table.entries())
 }
 
 #[test]
-fn the_kept_reads_keep_their_sides_and_the_block_its_cost_letters_and_table() {
+fn the_kept_reads_keep_their_sides_and_the_block_its_cost_letters_and_table_in_both_modes() {
     let mut random = Random::new(36);
     let (mut accepted, mut shorter, mut crowded) = (0, 0, 0);
     for i in 0..3000 {
@@ -118,23 +118,25 @@ fn the_kept_reads_keep_their_sides_and_the_block_its_cost_letters_and_table() {
         let matrix = kind.matrix(1, &mut random);
         let (narrow, wide) = (matrix.block(), convert(&matrix.block()).unwrap());
         assert_eq!(Matrix::read(&wide), Ok(kept(&matrix)));
-        match (phase(&narrow), phase(&wide)) {
-            (Ok(narrow), Ok(wide)) => {
-                assert_eq!(rest(&narrow), rest(&wide), "{matrix}");
-                let sides = narrow.sides.iter().zip(&matrix.rows).filter(|(_, row)| !row.cells.is_empty());
-                assert!(sides.map(|(side, _)| side).eq(&wide.sides), "{matrix}");
-                accepted += 1;
-                shorter += usize::from(wide.sides.len() < narrow.sides.len());
+        for phase in [phase, phase_heterozygous] {
+            match (phase(&narrow), phase(&wide)) {
+                (Ok(narrow), Ok(wide)) => {
+                    assert_eq!(rest(&narrow), rest(&wide), "{matrix}");
+                    let sides = narrow.sides.iter().zip(&matrix.rows).filter(|(_, row)| !row.cells.is_empty());
+                    assert!(sides.map(|(side, _)| side).eq(&wide.sides), "{matrix}");
+                    accepted += 1;
+                    shorter += usize::from(wide.sides.len() < narrow.sides.len());
+                }
+                (Err(narrow @ Refusal::Active { .. }), Err(wide)) => {
+                    assert_eq!(narrow, wide, "{matrix}");
+                    crowded += 1;
+                }
+                (narrow, wide) => panic!("{narrow:?}, but converted {wide:?}: {matrix}"),
             }
-            (Err(narrow @ Refusal::Active { .. }), Err(wide)) => {
-                assert_eq!(narrow, wide, "{matrix}");
-                crowded += 1;
-            }
-            (narrow, wide) => panic!("{narrow:?}, but converted {wide:?}: {matrix}"),
         }
     }
     println!("{accepted} accepted, {shorter} of them with empty reads, {crowded} crowded");
-    assert!(accepted > 2000 && shorter > 200 && crowded > 50, "{accepted}, {shorter}, {crowded}");
+    assert!(accepted > 4000 && shorter > 400 && crowded > 100, "{accepted}, {shorter}, {crowded}");
 }
 
 /// Converts, but writes what a function makes of the matrix.

@@ -2,15 +2,19 @@
 //! it in one thing each.
 
 use blocks::{Field, Kind, Random};
-use differential::{Call, Case, check, check_judge, proved, proved_judge};
+use differential::{Case, check, check_judge, proved, proved_judge};
 use matrix::{Matrix, Row, cell_bytes, set_length};
-use solver::{Numbers, columns};
+use solver::{Mode, Numbers, Phase, columns};
 use velejume::OUTPUT_BYTES;
 
-/// The numbers of a block from both calls, once all agree on them; a verdict is none of the block's.
+/// The numbers of a block from phasing in both modes and from judging, once all agree on them; a verdict is none of the block's.
 fn numbers(block: &[u8]) -> Numbers {
     let random = &mut Random::new(9);
-    let (phased, _) = check(proved, block, 4096, OUTPUT_BYTES, random).unwrap_or_else(|fault| panic!("{fault}"));
+    let [phased, heterozygous] = Mode::ALL.map(|mode| {
+        let checked = check(proved, mode, block, (4096, OUTPUT_BYTES), random);
+        checked.unwrap_or_else(|fault| panic!("{fault}")).0
+    });
+    assert_eq!(phased, heterozygous);
     let (judged, _) =
         check_judge(proved_judge, block, b"no answer", 4096, random).unwrap_or_else(|fault| panic!("{fault}"));
     assert_eq!(judged, if phased.0 == 0 { (50, 0) } else { phased });
@@ -108,40 +112,40 @@ fn empty_reads(block: &[u8]) -> Vec<(u32, u16)> {
 }
 
 /// Accepts them in version 2 as in version 1.
-fn keeps_them(block: &[u8], work: &mut [u32], out: &mut [u8]) -> Numbers {
-    match columns(block, work, out) {
+fn keeps_them(mode: Mode, block: &[u8], work: &mut [u32], out: &mut [u8]) -> Numbers {
+    match columns(mode, block, work, out) {
         (38, _) => (0, 0),
         numbers => numbers,
     }
 }
 
 /// Refuses them in version 1 too.
-fn refuses_them_always(block: &[u8], work: &mut [u32], out: &mut [u8]) -> Numbers {
+fn refuses_them_always(mode: Mode, block: &[u8], work: &mut [u32], out: &mut [u8]) -> Numbers {
     match (solver::rooms(block), empty_reads(block).first()) {
         (Ok(_), Some((read, _))) => (38, *read),
-        _ => columns(block, work, out),
+        _ => columns(mode, block, work, out),
     }
 }
 
 /// Looks for 6 first.
-fn finds_6_first(block: &[u8], work: &mut [u32], out: &mut [u8]) -> Numbers {
-    match (columns(block, work, out), empty_reads(block).first()) {
+fn finds_6_first(mode: Mode, block: &[u8], work: &mut [u32], out: &mut [u8]) -> Numbers {
+    match (columns(mode, block, work, out), empty_reads(block).first()) {
         ((38, read), Some((_, 1..))) => (6, read),
         (numbers, _) => numbers,
     }
 }
 
 /// Looks for them before it looks at any read otherwise.
-fn finds_them_first(block: &[u8], work: &mut [u32], out: &mut [u8]) -> Numbers {
-    match (columns(block, work, out), empty_reads(block).first()) {
+fn finds_them_first(mode: Mode, block: &[u8], work: &mut [u32], out: &mut [u8]) -> Numbers {
+    match (columns(mode, block, work, out), empty_reads(block).first()) {
         ((5..=7, _), Some((read, _))) if block[0] == 2 => (38, *read),
         (numbers, _) => numbers,
     }
 }
 
 /// Looks for them after all reads.
-fn finds_them_last(block: &[u8], work: &mut [u32], out: &mut [u8]) -> Numbers {
-    match (columns(block, work, out), Matrix::read(&block_without(block))) {
+fn finds_them_last(mode: Mode, block: &[u8], work: &mut [u32], out: &mut [u8]) -> Numbers {
+    match (columns(mode, block, work, out), Matrix::read(&block_without(block))) {
         ((38, _), Err(refusal @ (5..=7, _))) => refusal,
         (numbers, _) => numbers,
     }
@@ -167,36 +171,36 @@ fn block_without(block: &[u8]) -> Vec<u8> {
 }
 
 /// Names the last of them.
-fn names_the_last(block: &[u8], work: &mut [u32], out: &mut [u8]) -> Numbers {
-    match (columns(block, work, out), empty_reads(block).last()) {
+fn names_the_last(mode: Mode, block: &[u8], work: &mut [u32], out: &mut [u8]) -> Numbers {
+    match (columns(mode, block, work, out), empty_reads(block).last()) {
         ((38, _), Some((read, _))) => (38, *read),
         (numbers, _) => numbers,
     }
 }
 
 /// Names no read.
-fn names_none(block: &[u8], work: &mut [u32], out: &mut [u8]) -> Numbers {
-    match columns(block, work, out) {
+fn names_none(mode: Mode, block: &[u8], work: &mut [u32], out: &mut [u8]) -> Numbers {
+    match columns(mode, block, work, out) {
         (38, _) => (38, 0),
         numbers => numbers,
     }
 }
 
-/// How many of so many small blocks of a version, whole and damaged, tell a call from the independent solver.
-fn told(call: Call, version: u8) -> usize {
+/// How many of so many small blocks of a version, whole and damaged, tell a call from the independent solver, by mode.
+fn told(call: Phase, version: u8) -> [usize; 2] {
     let mut random = Random::new(23);
-    let mut case = |i: usize| {
+    let mut told = |mode: Mode, i: usize| {
         let field = [None, Some(Field::Cells), Some(Field::Letter), Some(Field::First), Some(Field::ReadLength)][i % 5];
         let case = Case::random(random.pick(&Kind::SMALL), version, field, &mut random);
-        check(call, &case.block, case.work.1, case.out.1, &mut random).is_err()
+        check(call, mode, &case.block, case.rooms(), &mut random).is_err()
     };
-    (0..3000).filter(|&i| case(i)).count()
+    Mode::ALL.map(|mode| (0..3000).filter(|&i| told(mode, i)).count())
 }
 
 #[test]
 fn each_wrong_solver_is_told() {
-    assert_eq!([1, 2].map(|version| told(columns, version)), [0; 2], "the solver itself is right");
-    let wrong: [(&str, Call, u8); 7] = [
+    assert_eq!([1, 2].map(|version| told(columns, version)), [[0; 2]; 2], "the solver itself is right");
+    let wrong: [(&str, Phase, u8); 7] = [
         ("keeps them in version 2", keeps_them, 2),
         ("refuses them in version 1", refuses_them_always, 1),
         ("looks for 6 first", finds_6_first, 2),
@@ -207,8 +211,8 @@ fn each_wrong_solver_is_told() {
     ];
     for (name, call, version) in wrong {
         let told = told(call, version);
-        println!("{name}: {told}");
-        assert!(told > 0, "a solver that {name} passes");
+        println!("{name}: {told:?}");
+        assert!(told.iter().all(|&told| told > 0), "a solver that {name} passes: {told:?}");
     }
 }
 

@@ -1,20 +1,31 @@
-//! Both sides of each limit of documents 01 and 02, in both versions, with the numbers that they give.
+//! Both sides of each limit of documents 01 and 02, in both versions and both modes, with the numbers that they give.
 
 use blocks::{Gaps, Random, Style, Weights};
-use differential::{check, proved};
+use differential::{check, modes_and_versions, proved};
 use matrix::{Matrix, Row, VERSIONS, cell_bytes, set_length};
+use solver::{Mode, Numbers};
 use velejume::{OUTPUT_BYTES, WORK_ENTRIES};
 
-/// The numbers of a block in rooms of these sizes, once all agree on them.
-fn numbers(block: &[u8], work: usize, out: usize) -> (u32, u32) {
-    match check(proved, block, work, out, &mut Random::new(9)) {
+/// The numbers of a block in a mode and in rooms of these sizes, once all agree on them.
+fn numbers_in(mode: Mode, block: &[u8], work: usize, out: usize) -> Numbers {
+    match check(proved, mode, block, (work, out), &mut Random::new(9)) {
         Ok((numbers, _)) => numbers,
         Err(fault) => panic!("{fault}"),
     }
 }
 
+/// The numbers in the general mode. The other has the same refusals, and costs that are not below.
+fn numbers(block: &[u8], work: usize, out: usize) -> Numbers {
+    let [general, heterozygous] = Mode::ALL.map(|mode| numbers_in(mode, block, work, out));
+    match (general, heterozygous) {
+        ((0, least), (0, cost)) => assert!(least <= cost, "{least}, {cost}"),
+        _ => assert_eq!(general, heterozygous),
+    }
+    general
+}
+
 /// The numbers in rooms that suffice for every block.
-fn ample(block: &[u8]) -> (u32, u32) {
+fn ample(block: &[u8]) -> Numbers {
     numbers(block, WORK_ENTRIES, OUTPUT_BYTES)
 }
 
@@ -212,10 +223,11 @@ fn the_largest_block_takes_all_of_the_rooms_that_suffice_for_every_one() {
 }
 
 /// The least cost of the largest table with one weight in every entry, letters by read and column.
-fn cost_of(version: u8, weight: u16, letter: fn(usize, usize) -> usize) -> u32 {
+fn cost_of(mode: Mode, version: u8, weight: u16, letter: fn(usize, usize) -> usize) -> u32 {
     let cells = |i: usize| (0..1024).map(|j| Some((letter(i, j) as u8, weight))).collect();
     let rows = (0..12).map(|i| Row { first: 0, cells: cells(i) }).collect();
-    let (number, cost) = ample(&Matrix { version, columns: 1024, rows }.block());
+    let block = Matrix { version, columns: 1024, rows }.block();
+    let (number, cost) = numbers_in(mode, &block, WORK_ENTRIES, OUTPUT_BYTES);
     assert_eq!(number, 0);
     cost
 }
@@ -229,11 +241,11 @@ fn any(i: usize, j: usize) -> usize {
 fn the_heaviest_weight_in_every_entry_of_the_largest_table() {
     let letters: [fn(usize, usize) -> usize; 3] = [|i, _| usize::from(i >= 6), |i, j| j >> (i % 4) & 1, any];
     for letter in letters {
-        let light = cost_of(1, 1, letter);
-        println!("{light} entries disagree");
-        for version in VERSIONS {
-            assert_eq!(cost_of(version, heaviest(version), letter), light * u32::from(heaviest(version)));
+        let light = Mode::ALL.map(|mode| cost_of(mode, 1, 1, letter));
+        println!("{light:?} entries disagree");
+        for ((mode, version), light) in modes_and_versions().zip(light.into_iter().flat_map(|light| [light; 2])) {
+            assert_eq!(cost_of(mode, version, heaviest(version), letter), light * u32::from(heaviest(version)));
         }
     }
-    assert!(cost_of(2, 65535, any) > 1 << 27, "a cost that needs four bytes");
+    assert!(Mode::ALL.iter().all(|mode| cost_of(*mode, 2, 65535, any) > 1 << 27), "a cost that needs four bytes");
 }

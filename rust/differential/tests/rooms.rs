@@ -1,8 +1,8 @@
-//! Every size of both rooms, from nothing to more than enough.
+//! Every size of both rooms, from nothing to more than enough, in both modes.
 
 use blocks::{Kind, Random};
-use differential::{check, proved};
-use matrix::VERSIONS;
+use differential::{check, modes_and_versions, proved};
+use solver::Mode;
 
 /// The number that these rooms give to a block that needs so much.
 fn expected(need: (usize, usize), work: usize, out: usize) -> u32 {
@@ -15,12 +15,12 @@ fn expected(need: (usize, usize), work: usize, out: usize) -> u32 {
 
 /// Every size of the work room beside some of the output, and the other way round; gives how many calls were refused by
 /// 10 and by 11, and how many accepted.
-fn every_size(block: &[u8], need: (usize, usize), random: &mut Random) -> [usize; 3] {
+fn every_size(mode: Mode, block: &[u8], need: (usize, usize), random: &mut Random) -> [usize; 3] {
     let works = (0..need.0 + 3).flat_map(|work| [0, need.1 - 1, need.1, need.1 + 40].map(|out| (work, out)));
     let outs = (0..need.1 + 3).flat_map(|out| [0, need.0 - 1, need.0, need.0 + 40].map(|work| (work, out)));
     let mut counts = [0; 3];
     for (work, out) in works.chain(outs) {
-        let number = match check(proved, block, work, out, random) {
+        let number = match check(proved, mode, block, (work, out), random) {
             Ok(((number, _), _)) => number,
             Err(fault) => panic!("{fault}"),
         };
@@ -35,10 +35,10 @@ fn rooms_of_every_size_get_what_they_should() {
     let mut random = Random::new(5);
     let mut total = [0; 3];
     for kind in Kind::SMALL {
-        for version in VERSIONS.into_iter().cycle().take(20) {
+        for (mode, version) in modes_and_versions().collect::<Vec<_>>().into_iter().cycle().take(32) {
             let block = kind.matrix(version, &mut random).block();
             if let Some(need) = solver::rooms(&block).ok().filter(|need| need.0 <= 600) {
-                let counts = every_size(&block, need, &mut random);
+                let counts = every_size(mode, &block, need, &mut random);
                 total = std::array::from_fn(|i| total[i] + counts[i]);
             }
         }

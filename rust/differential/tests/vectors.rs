@@ -1,7 +1,8 @@
 //! The outside vectors of tests/vectors, from solvers that share nothing with the project's, through the proved calls and the
 //! independent solver: both numbers, every entry of the work room, every byte of the output.
 
-use differential::{Call, Convert, Judge, proved, proved_convert, proved_judge, searchable};
+use differential::{Convert, Judge, proved, proved_convert, proved_judge, searchable};
+use solver::{Mode, Phase};
 use std::collections::{BTreeMap, BTreeSet};
 use std::path::Path;
 
@@ -54,10 +55,18 @@ impl Line {
         vec![u32::from_ne_bytes([LENT; 4]); number(&self.lent["work"]) as usize]
     }
 
-    fn phase(&self, name: &str, call: Call) {
+    fn mode(&self) -> Mode {
+        match self.lent["mode"].as_str() {
+            "general" => Mode::General,
+            "het" => Mode::Heterozygous,
+            other => panic!("there is no mode {other}"),
+        }
+    }
+
+    fn phase(&self, name: &str, call: Phase) {
         let block = bytes(&self.lent["block"]);
         let (mut work, mut out) = (self.work(), vec![LENT; number(&self.lent["out"]) as usize]);
-        let numbers = call(&block, &mut work, &mut out);
+        let numbers = call(self.mode(), &block, &mut work, &mut out);
         assert_eq!(numbers, self.numbers(), "{name}: {}", self.lent["block"]);
         assert_eq!(work, entries(&self.found["work"]), "{name}: {}", self.lent["block"]);
         assert_eq!(out, bytes(&self.found["out"]), "{name}: {}", self.lent["block"]);
@@ -78,24 +87,27 @@ impl Line {
 }
 
 /// The numbers that are met with blocks whose first byte is this.
-fn met(lines: &[Line], version: u8) -> BTreeSet<u32> {
+fn met<'a>(lines: impl IntoIterator<Item = &'a Line>, version: u8) -> BTreeSet<u32> {
     let of = |line: &&Line| bytes(&line.lent["block"]).first() == Some(&version);
-    lines.iter().filter(of).map(|line| line.numbers().0).collect()
+    lines.into_iter().filter(of).map(|line| line.numbers().0).collect()
 }
 
 #[test]
-fn blocks_of_both_versions_are_phased_as_outside() {
+fn blocks_of_both_versions_are_phased_as_outside_in_both_modes() {
     let lines = lines("solve.txt");
-    let solvers: [(&str, Call); 3] = [("proved", proved), ("columns", solver::columns), ("walk", solver::walk)];
+    let solvers: [(&str, Phase); 3] = [("proved", proved), ("columns", solver::columns), ("walk", solver::walk)];
     for line in &lines {
         solvers.iter().for_each(|(name, call)| line.phase(name, *call));
         if searchable(&bytes(&line.lent["block"])) {
             line.phase("plain search", solver::exhaustive);
         }
     }
-    assert_eq!(lines.len(), 170);
-    assert!(met(&lines, 1).is_superset(&[0, 1, 3, 4, 5, 8, 10, 11].into()));
-    assert!(met(&lines, 2).is_superset(&[0, 1, 7, 8, 10, 11].into()));
+    let (general, heterozygous): (Vec<&Line>, _) = lines.iter().partition(|line| line.mode() == Mode::General);
+    assert_eq!((general.len(), heterozygous.len()), (170, 115));
+    assert!(met(general.clone(), 1).is_superset(&[0, 1, 3, 4, 5, 8, 10, 11].into()));
+    assert!(met(general, 2).is_superset(&[0, 1, 7, 8, 10, 11].into()));
+    assert!(met(heterozygous.clone(), 1).is_superset(&[0, 5, 7, 10, 11].into()));
+    assert!(met(heterozygous, 2).is_superset(&[0, 1, 3, 4, 5, 7, 8, 10, 11, 38].into()));
 }
 
 fn by_columns(block: &[u8], answer: &[u8], work: &mut [u32]) -> (u32, u32) {

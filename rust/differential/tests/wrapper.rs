@@ -3,13 +3,23 @@
 use blocks::{Field, Kind, Random};
 use differential::{Builder, Case, Judging};
 use matrix::VERSIONS;
+use solver::{Mode, Numbers};
+use velejume::{Answer, Refusal};
 
 /// What the solver gives in rooms of just the size: the table and the answer block, or the numbers.
-fn solved(block: &[u8]) -> Result<(Vec<u32>, Vec<u8>), (u32, u32)> {
+fn solved(mode: Mode, block: &[u8]) -> Result<(Vec<u32>, Vec<u8>), Numbers> {
     let (entries, length) = solver::rooms(block)?;
     let (mut work, mut out) = (vec![0; entries], vec![0; length]);
-    assert_eq!(solver::columns(block, &mut work, &mut out).0, 0, "the rooms suffice");
+    assert_eq!(solver::columns(mode, block, &mut work, &mut out).0, 0, "the rooms suffice");
     Ok((work, out))
+}
+
+/// What the wrapper gives.
+fn wrapped(mode: Mode, block: &[u8]) -> Result<Answer, Refusal> {
+    match mode {
+        Mode::General => velejume::phase(block),
+        Mode::Heterozygous => velejume::phase_heterozygous(block),
+    }
 }
 
 #[test]
@@ -20,21 +30,23 @@ fn the_wrapper_gives_the_solvers_answers_and_refusals() {
         let kind = if i % 100 == 0 { random.pick(&Kind::LARGE) } else { random.pick(&Kind::SMALL) };
         let field = random.one_in(2).then(|| random.pick(&Field::ALL));
         let block = Case::random(kind, random.pick(&VERSIONS), field, &mut random).block;
-        match (velejume::phase(&block), solved(&block)) {
-            (Ok(answer), Ok((table, bytes))) => {
-                answers += 1;
-                assert_eq!(answer.table.entries(), table, "{block:?}");
-                assert_eq!(answer.block(), bytes, "{block:?}");
+        for mode in Mode::ALL {
+            match (wrapped(mode, &block), solved(mode, &block)) {
+                (Ok(answer), Ok((table, bytes))) => {
+                    answers += 1;
+                    assert_eq!(answer.table.entries(), table, "{mode:?}: {block:?}");
+                    assert_eq!(answer.block(), bytes, "{mode:?}: {block:?}");
+                }
+                (Err(refusal), Err(numbers)) => {
+                    refusals[numbers.0 as usize] += 1;
+                    assert_eq!((refusal.number(), refusal.second()), numbers, "{mode:?}: {block:?}");
+                }
+                (given, solved) => panic!("{mode:?}: {given:?}, not {solved:?} of {block:?}"),
             }
-            (Err(refusal), Err(numbers)) => {
-                refusals[numbers.0 as usize] += 1;
-                assert_eq!((refusal.number(), refusal.second()), numbers, "{block:?}");
-            }
-            (given, solved) => panic!("{given:?}, not {solved:?} of {block:?}"),
         }
     }
     println!("{answers} answers, refusals 1 to 9: {:?}, 38: {}", &refusals[1..10], refusals[38]);
-    assert!(answers > 1000 && refusals[1..10].iter().chain(&refusals[38..]).all(|&count| count > 0));
+    assert!(answers > 2000 && refusals[1..10].iter().chain(&refusals[38..]).all(|&count| count > 0));
 }
 
 #[test]

@@ -2,6 +2,7 @@
 
 use draw::{Kind, Plan};
 use matrix::{Cell, Matrix, Row, VERSIONS};
+use solver::Mode;
 
 fn plan(kind: Kind, seed: u64, columns: Option<usize>, depth: Option<usize>) -> Plan {
     Plan { seed, count: 1, version: 1, kinds: vec![kind], columns, depth }
@@ -113,7 +114,7 @@ fn cost(mut matrix: Matrix, change: Change) -> u32 {
     }
     let block = matrix.block();
     let (entries, length) = solver::rooms(&block).expect("the block is lawful");
-    solver::columns(&block, &mut vec![0; entries], &mut vec![0; length]).1
+    solver::columns(Mode::General, &block, &mut vec![0; entries], &mut vec![0; length]).1
 }
 
 #[test]

@@ -1,25 +1,33 @@
 //! The answer block: its version, its letters, its head, its parts.
 
-use crate::Block;
-use std::cmp::Ordering;
+use crate::{Block, Mode};
 
 /// The version of the answer block.
 const VERSION: u8 = 2;
 
-/// The letter that is reported of a side, by the weight of its entries with letter 1 and that of its entries with letter 0:
-/// 2, no letter, where they are equal.
-pub fn letter(w0: u32, w1: u32) -> u8 {
-    match w0.cmp(&w1) {
-        Ordering::Less => 0,
-        Ordering::Equal => 2,
-        Ordering::Greater => 1,
+/// By side and letter: something of the entries of a column that are on this side and have this letter.
+pub type Entries = [[u32; 2]; 2];
+
+/// What a 0 and what a 1 costs on each side, with the letter that the mode asks for on the other.
+fn prices(mode: Mode, [[zeros, ones], [other_zeros, other_ones]]: Entries) -> Entries {
+    match mode {
+        Mode::General => [[ones, zeros], [other_ones, other_zeros]],
+        Mode::Heterozygous => {
+            let (zero, one) = (ones + other_zeros, zeros + other_ones);
+            [[zero, one], [one, zero]]
+        }
     }
 }
 
-/// How many of a side's entries differ from its letter, of so many with letter 0 and so many with letter 1. At a tie the letter
-/// is 1, though none is reported.
-pub fn flips(w0: u32, w1: u32, zeros: u32, ones: u32) -> u32 {
-    if w0 < w1 { ones } else { zeros }
+/// The letters that are reported of both sides, by the weights of a column's entries: 2, no letter, where both cost the same. And
+/// how many entries there are that differ from their side's letter, which is 1 at a tie, and 0 where it has to differ from such a 1.
+pub fn letters(mode: Mode, weights: Entries, counts: Entries) -> ([u8; 2], u32) {
+    let prices = prices(mode, weights);
+    let [first, second] = prices.map(|[zero, one]| u8::from(zero >= one));
+    let chosen = [first, if mode == Mode::General { second } else { 1 - first }];
+    let differ = |side: usize| counts[side][usize::from(1 - chosen[side])];
+    let reported = |side: usize| if prices[side][0] == prices[side][1] { 2 } else { chosen[side] };
+    ([reported(0), reported(1)], differ(0) + differ(1))
 }
 
 pub fn length(block: &Block) -> usize {

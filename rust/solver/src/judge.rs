@@ -1,18 +1,15 @@
 //! Wish 7 of document 02: a builder's answer, verdict by verdict.
 
-use crate::{Block, Numbers, Stated};
-
-/// Phases a block in the rooms that it is lent: [`crate::columns`] or [`crate::exhaustive`].
-pub type Phase = fn(&[u8], &mut [u32], &mut [u8]) -> Numbers;
+use crate::{Block, Mode, Numbers, Phase, Stated};
 
 /// The bytes of the longest answer: 1,024 reads and 1,024 columns.
 const LONGEST: usize = 17 + 1024 + 2 * 1024;
 
-/// Judges a builder's answer beside the one that `phase` finds: the refusal of the block, 1 to 10 or 38, or the first verdict
+/// Judges a builder's answer beside the one that `phase` finds in the general mode: the refusal of the block, 1 to 10 or 38, or the first verdict
 /// that applies, with the table in the work room.
 pub fn judge(phase: Phase, block: &[u8], answer: &[u8], work: &mut [u32]) -> Numbers {
     let mut ours = vec![0; LONGEST];
-    match (phase(block, work, &mut ours), Block::read(block)) {
+    match (phase(Mode::General, block, work, &mut ours), Block::read(block)) {
         ((0, least), Ok(block)) => verdict(&block, answer, &ours, least),
         (refusal, _) => refusal,
     }

@@ -1,9 +1,9 @@
 //! A solver of fragment blocks of both versions that shares nothing with the proved library, written from documents 01 and 02.
 //!
 //! [`exhaustive`] tries every division of the reads and is for small blocks. [`columns`] is the column
-//! method, written for speed, and [`walk`] the same with one entry at each step. All take the rooms that the proved call takes and leave in them what
-//! document 01 says, entry by entry and byte by byte. [`judge`] judges a builder's answer by either, as
-//! document 02 says.
+//! method, written for speed, and [`walk`] the same with one entry at each step. All take a [`Mode`] and the rooms that the proved
+//! calls take, and leave in them what documents 01 and 02 say, entry by entry and byte by byte. [`judge`] judges a builder's
+//! answer by either, as document 02 says.
 //!
 //! [`convert`] turns a block of version 1 into one of version 2 without its empty reads.
 //!
@@ -16,6 +16,7 @@ mod columns;
 mod convert;
 mod exhaustive;
 mod judge;
+mod mode;
 mod stated;
 
 pub use block::{Block, Read};
@@ -23,8 +24,12 @@ pub use checks::rooms;
 pub use columns::{columns, forgetful, walk};
 pub use convert::convert;
 pub use exhaustive::exhaustive;
-pub use judge::{Phase, judge};
+pub use judge::judge;
+pub use mode::Mode;
 pub use stated::Stated;
 
 /// The number of document 01's table or of document 02's verdicts, 0 on acceptance, and the second number.
 pub type Numbers = (u32, u32);
+
+/// Phases a block in a mode and in the rooms that it is lent: [`columns`], [`walk`] or [`exhaustive`].
+pub type Phase = fn(Mode, &[u8], &mut [u32], &mut [u8]) -> Numbers;

@@ -1,9 +1,10 @@
-//! soak SEED COUNT: so many random blocks of every kind and version, a third of them damaged, as many judged
-//! answers and as many conversions.
+//! soak SEED COUNT: so many random blocks of every kind and version, a third of them damaged, each phased in both modes, as many
+//! judged answers and as many conversions.
 
 use blocks::{Field, Kind, Random};
 use differential::{Builder, Case, Conversion, Judging, Tally, check_case, check_conversion, check_judging};
 use matrix::VERSIONS;
+use solver::Mode;
 use std::process::ExitCode;
 
 fn main() -> ExitCode {
@@ -20,7 +21,9 @@ fn main() -> ExitCode {
         let (kind, version) = (random.pick(kinds), random.pick(&VERSIONS));
         let field = random.one_in(3).then(|| random.pick(&Field::ALL));
         let case = Case::random(kind, version, field, &mut random);
-        tally.note(&case, check_case(&case, &mut random));
+        for mode in Mode::ALL {
+            tally.note(mode, &case, check_case(mode, &case, &mut random));
+        }
         let case = Judging::random(kind, version, field, random.pick(&Builder::ALL), &mut random);
         judged.note_judging(&case, check_judging(&case, &mut random));
         let case = Conversion::random(kind, version, field, &mut random);

@@ -6,7 +6,7 @@
 use super::{back, letters, pile, table};
 use crate::block::{NARROW, Read, WIDE};
 use crate::checks::Placed;
-use crate::{Block, Numbers, answer};
+use crate::{Block, Mode, Numbers, answer};
 use std::ops::Range;
 
 /// The runs of cells that are no holes.
@@ -27,7 +27,7 @@ fn split(block: &Block) -> Vec<Vec<Read>> {
     block.reads.iter().map(split).collect()
 }
 
-/// Phases a block, forgetting each read in its holes. Cost, flips and letters are those of the divided runs; a read's side is
+/// Phases a block in the general mode, forgetting each read in its holes. Cost, flips and letters are those of the divided runs; a read's side is
 /// that of its first run, which the way back meets last. Refusals are as they should be.
 pub fn forgetful(bytes: &[u8], work: &mut [u32], out: &mut [u8]) -> Numbers {
     match Placed::accepted(bytes, work.len(), out.len()) {
@@ -42,11 +42,11 @@ fn forgotten<const CELL: usize>(placed: &Placed, work: &mut [u32], out: &mut [u8
     let split = split(block);
     let runs = block.with_reads(split.concat());
     let piles = pile::piles(&runs);
-    table::<true, CELL>(&runs, &piles, *width, work);
+    table::<true, CELL, false>(&runs, &piles, *width, work);
     let mut sides = vec![0; runs.reads.len()];
     let cost = back::way_back(&runs, &piles, *width, work, &mut sides);
     let (stated, haplotypes) = answer::parts(block, out);
-    let flips = letters::write::<CELL>(&runs, &sides, haplotypes);
+    let flips = letters::write::<CELL>(Mode::General, &runs, &sides, haplotypes);
     let mut next = 0;
     for (side, runs) in stated.iter_mut().zip(&split) {
         *side = if runs.is_empty() { 0 } else { sides[next] };

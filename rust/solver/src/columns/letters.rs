@@ -1,7 +1,7 @@
 //! Letters and flips, once the sides are known.
 
 use crate::block::weight;
-use crate::{Block, answer};
+use crate::{Block, Mode, answer};
 
 /// By side and letter, holes beside: the number of entries above their weight, which has 20 bits (12 reads weigh at most
 /// 786,420).
@@ -19,16 +19,15 @@ fn sums<const CELL: usize>(block: &Block, sides: &[u8]) -> Vec<Sums> {
 }
 
 /// Writes both haplotypes; gives the number of flips.
-pub fn write<const CELL: usize>(block: &Block, sides: &[u8], haplotypes: [&mut [u8]; 2]) -> u32 {
-    let sums = sums::<CELL>(block, sides);
+pub fn write<const CELL: usize>(mode: Mode, block: &Block, sides: &[u8], haplotypes: [&mut [u8]; 2]) -> u32 {
+    let weights = |[zeros, ones, _]: [u32; 3]| [zeros & 0xfffff, ones & 0xfffff];
+    let counts = |[zeros, ones, _]: [u32; 3]| [zeros >> 20, ones >> 20];
+    let [first, second] = haplotypes;
     let mut flips = 0;
-    for (side, haplotype) in haplotypes.into_iter().enumerate() {
-        for (letter, sums) in haplotype.iter_mut().zip(&sums) {
-            let [zeros, ones, _] = sums[side];
-            let (w0, w1) = (ones & 0xfffff, zeros & 0xfffff);
-            *letter = answer::letter(w0, w1);
-            flips += answer::flips(w0, w1, zeros >> 20, ones >> 20);
-        }
+    for ((first, second), sums) in first.iter_mut().zip(second).zip(sums::<CELL>(block, sides)) {
+        let (letters, differ) = answer::letters(mode, sums.map(weights), sums.map(counts));
+        [*first, *second] = letters;
+        flips += differ;
     }
     flips
 }

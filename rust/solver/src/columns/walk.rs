@@ -6,30 +6,36 @@ use crate::Block;
 use crate::block::NARROW;
 use crate::checks::entries;
 
-/// The sums in one word. Of weights of one byte (12 reads weigh at most 3,060) all four, 16 bits each: side 0's letters 0 and 1,
-/// then side 1's. Of weights of two bytes (12 reads weigh at most 786,420) side 0's, 32 bits each; side 1's are what is left
-/// of the sums with all reads on side 0.
+/// The sums in one word. In the general mode, of weights of one byte (12 reads weigh at most 3,060) all four, 16 bits each: side 0's
+/// letters 0 and 1, then side 1's. Of weights of two bytes (12 reads weigh at most 786,420) side 0's, 32 bits each; side 1's are what
+/// is left of the sums with all reads on side 0. In the all-heterozygous mode the two that its charge is the lesser of, 32 bits each:
+/// what is 0 on side 0 or 1 on side 1, and what is 1 on side 0 or 0 on side 1.
 type Sums = u64;
 
 /// The charge, by the sums and by what they are with all reads on side 0.
-fn charge<const CELL: usize>(sums: Sums, all: Sums) -> u32 {
-    if CELL == NARROW {
+fn charge<const CELL: usize, const HETEROZYGOUS: bool>(sums: Sums, all: Sums) -> u32 {
+    let least = |sums: Sums| (sums as u32).min((sums >> 32) as u32);
+    if HETEROZYGOUS {
+        least(sums)
+    } else if CELL == NARROW {
         let lane = |i: u32| (sums >> (16 * i)) as u16;
         u32::from(lane(0).min(lane(1))) + u32::from(lane(2).min(lane(3)))
     } else {
-        let least = |sums: Sums| (sums as u32).min((sums >> 32) as u32);
         least(sums) + least(all - sums)
     }
 }
 
 /// What an entry adds to the sums on side 0, and when it goes from there to side 1.
-fn adds<const CELL: usize>(letter: u8, weight: u32) -> (Sums, Sums) {
-    if CELL == NARROW {
-        let weight = Sums::from(weight) << (16 * (letter & 1));
-        (weight, (weight << 32).wrapping_sub(weight))
+fn adds<const CELL: usize, const HETEROZYGOUS: bool>(letter: u8, weight: u32) -> (Sums, Sums) {
+    let bits = if CELL == NARROW && !HETEROZYGOUS { 16 } else { 32 };
+    let lane = |letter: u8| Sums::from(weight) << (bits * (letter & 1));
+    let added = lane(letter);
+    if HETEROZYGOUS {
+        (added, lane(letter ^ 1).wrapping_sub(added))
+    } else if CELL == NARROW {
+        (added, (added << 32).wrapping_sub(added))
     } else {
-        let weight = Sums::from(weight) << (32 * (letter & 1));
-        (weight, weight.wrapping_neg())
+        (added, added.wrapping_neg())
     }
 }
 
@@ -47,7 +53,7 @@ fn turn(shared: usize, classes: usize) -> usize {
 }
 
 /// The steps of a column, and the sums with all reads on side 0.
-fn steps<const CELL: usize>(block: &Block, pile: &Pile, column: usize) -> (Steps, Sums) {
+fn steps<const CELL: usize, const HETEROZYGOUS: bool>(block: &Block, pile: &Pile, column: usize) -> (Steps, Sums) {
     let classes = entries(pile.joined());
     let mut steps = Steps { moves: [0; 12], turns: [0; 12] };
     let mut sums = 0;
@@ -57,7 +63,7 @@ fn steps<const CELL: usize>(block: &Block, pile: &Pile, column: usize) -> (Steps
         unsafe {
             let read = block.reads.get_unchecked(usize::from(number));
             let (letter, weight) = block.cell_at::<CELL>(read, column);
-            let (added, moved) = adds::<CELL>(letter, weight);
+            let (added, moved) = adds::<CELL, HETEROZYGOUS>(letter, weight);
             sums += added;
             *steps.moves.get_unchecked_mut(i) = moved;
             if usize::from(read.first) < column {
@@ -70,31 +76,36 @@ fn steps<const CELL: usize>(block: &Block, pile: &Pile, column: usize) -> (Steps
 }
 
 /// One column's entries: the charge of each division and what it takes over from the column before.
-pub fn fill<const EIGHT: bool, const CELL: usize>(
+pub fn fill<const EIGHT: bool, const CELL: usize, const HETEROZYGOUS: bool>(
     block: &Block,
     pile: &Pile,
     column: usize,
     carried: &[u32],
     part: &mut [u32],
 ) {
-    let (steps, sums) = steps::<CELL>(block, pile, column);
+    let (steps, sums) = steps::<CELL, HETEROZYGOUS>(block, pile, column);
     // SAFETY: `part` has an entry for each division of the pile, `carried` one for each division of its shared reads
     unsafe {
         if !EIGHT || part.len() < 8 {
-            walk::<CELL>(&steps, sums, carried, part);
+            walk::<CELL, HETEROZYGOUS>(&steps, sums, carried, part);
         } else {
-            walk_by_eights::<CELL>(&steps, sums, carried, part);
+            walk_by_eights::<CELL, HETEROZYGOUS>(&steps, sums, carried, part);
         }
     }
 }
 
 /// The walk itself, from the sums with all reads on side 0.
-unsafe fn walk<const CELL: usize>(steps: &Steps, all: Sums, carried: &[u32], part: &mut [u32]) {
+unsafe fn walk<const CELL: usize, const HETEROZYGOUS: bool>(
+    steps: &Steps,
+    all: Sums,
+    carried: &[u32],
+    part: &mut [u32],
+) {
     let mut sums = all;
     let (mut k, mut fold, mut step) = (0, 0, 1);
     loop {
         unsafe {
-            *part.get_unchecked_mut(k) = charge::<CELL>(sums, all) + carried.get_unchecked(fold);
+            *part.get_unchecked_mut(k) = charge::<CELL, HETEROZYGOUS>(sums, all) + carried.get_unchecked(fold);
             if step == part.len() {
                 return;
             }
@@ -122,15 +133,20 @@ fn low_digits(steps: &Steps) -> ([Sums; 8], [usize; 8]) {
 }
 
 /// The walk over the higher digits, eight entries at each step.
-unsafe fn walk_by_eights<const CELL: usize>(steps: &Steps, all: Sums, carried: &[u32], part: &mut [u32]) {
+unsafe fn walk_by_eights<const CELL: usize, const HETEROZYGOUS: bool>(
+    steps: &Steps,
+    all: Sums,
+    carried: &[u32],
+    part: &mut [u32],
+) {
     let (adds, turns) = low_digits(steps);
     let mut sums = all;
     let (mut k, mut fold, mut step) = (0, 0, 1);
     loop {
         unsafe {
             for i in 0..8 {
-                *part.get_unchecked_mut(8 * k + i) =
-                    charge::<CELL>(sums.wrapping_add(adds[i]), all) + carried.get_unchecked(fold ^ turns[i]);
+                *part.get_unchecked_mut(8 * k + i) = charge::<CELL, HETEROZYGOUS>(sums.wrapping_add(adds[i]), all)
+                    + carried.get_unchecked(fold ^ turns[i]);
             }
             if 8 * step == part.len() {
                 return;

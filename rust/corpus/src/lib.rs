@@ -21,7 +21,7 @@ mod shown;
 mod tally;
 mod tsv;
 
-pub use answers::{answers, put_answer};
+pub use answers::{Phase, answers, put_answer};
 pub use checksum::{Checksum, list};
 pub use convert::{Converted, convert};
 pub use cores::each;

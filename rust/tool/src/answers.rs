@@ -9,17 +9,21 @@ use corpus::Made;
 pub const COMMAND: Command = Command {
     name: "answers",
     help: "\
-usage: velejume answers FOLDER
+usage: velejume answers FOLDER [--all-het]
 
 Writes our answers for a folder of fragment blocks: NAME.answer for each
 NAME.block. An answer that is there is kept. Prints a line for each block that
 has not our answer now, and how many have.
 
+  --all-het  answers for haplotypes that differ at every column, as those of
+             'velejume phase --all-het'; 'velejume judge' takes ours to be the
+             ones without it
+
 The exit status is 0 if every block has our answer; 1 if one is refused or
 cannot be read, has another answer, or its answer cannot be written; 2 if the
 folder cannot be read or holds no block, or this usage is not kept.
 ",
-    options: &[],
+    options: &[("--all-het", None)],
     run,
 };
 
@@ -27,7 +31,8 @@ fn run(words: &Words) -> Result<Status, Fault> {
     let [folder] = &words.rest()[..] else {
         return Err(Fault::Usage("one folder".to_string()));
     };
-    let made = corpus::answers(&folder::items(folder)?);
+    let phase = if words.has("--all-het") { velejume::phase_heterozygous_in } else { velejume::phase_in };
+    let made = corpus::answers(&folder::items(folder)?, phase);
     if made.is_empty() {
         return Err(Fault::Failed(at(folder, "holds no NAME.block")));
     }

@@ -22,10 +22,10 @@ use words::Words;
 pub const VERSION: &str = concat!("velejume ", env!("CARGO_PKG_VERSION"));
 
 const HELP: &str = "\
-usage: velejume phase [--answer] BLOCK..
+usage: velejume phase [--all-het] [--answer] BLOCK..
        velejume judge BLOCK ANSWER
        velejume judge FOLDER [--report PAGE.html] [--tsv FILE] [--part I/N]
-       velejume answers FOLDER
+       velejume answers FOLDER [--all-het]
        velejume convert [BLOCK]
        velejume convert BLOCK.. --to FOLDER
        velejume convert FOLDER --to FOLDER

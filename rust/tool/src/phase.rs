@@ -4,12 +4,13 @@ use crate::command::{Command, Fault, Status};
 use crate::output::{at, print, say};
 use crate::words::Words;
 use corpus::{Outcome, Progress, put_answer, read_block};
-use std::path::Path;
+use std::path::{Path, PathBuf};
+use velejume::{Answer, Refusal};
 
 pub const COMMAND: Command = Command {
     name: "phase",
     help: "\
-usage: velejume phase [--answer] BLOCK..
+usage: velejume phase [--all-het] [--answer] BLOCK..
 
 Divides the reads of each fragment block at the least cost and prints five
 lines: cost, flips, the side of each read, and the haplotypes of side 0 and
@@ -17,14 +18,17 @@ side 1. '-' is no letter: both cost the same. Of several blocks each has its
 name before, as 'block NAME'. A block that is refused gets one line, 'refused
 NUMBER at SECOND' and the reason.
 
-  --answer  also write the answer blocks: NAME.answer beside NAME.block; an
-            answer that is there is kept
+  --all-het  for haplotypes that differ at every column: a column is written 0
+             and 1 or 1 and 0, whichever costs less, and '-' in both where they
+             cost the same
+  --answer   also write the answer blocks: NAME.answer beside NAME.block; an
+             answer that is there is kept
 
 The exit status is 0 if every block is accepted; 1 if one is refused, or
 another answer is there; 2 if a block cannot be read, an answer cannot be
 written, or this usage is not kept.
 ",
-    options: &[("--answer", None)],
+    options: &[("--all-het", None), ("--answer", None)],
     run,
 };
 
@@ -38,7 +42,10 @@ struct Phased {
     status: Status,
 }
 
-fn phased(path: &Path, answers: bool) -> Phased {
+/// A call that phases.
+type Phase = fn(&[u8]) -> Result<Answer, Refusal>;
+
+fn phased(path: &Path, phase: Phase, answers: bool) -> Phased {
     let block = match read_block(path) {
         Ok(block) => block,
         Err(why) => {
@@ -46,7 +53,7 @@ fn phased(path: &Path, answers: bool) -> Phased {
             return Phased { printed: String::new(), said, status: Status::Failed };
         }
     };
-    let answer = match velejume::phase(&block) {
+    let answer = match phase(&block) {
         Ok(answer) => answer,
         Err(refusal) => {
             let printed = format!("{}\n", Outcome::Refused(refusal));
@@ -63,7 +70,7 @@ fn phased(path: &Path, answers: bool) -> Phased {
 }
 
 /// Prints what came of some blocks, with their names if there are several; says whether anyone still reads.
-fn shown(paths: &[std::path::PathBuf], phased: &[Phased], named: bool) -> Result<bool, Fault> {
+fn shown(paths: &[PathBuf], phased: &[Phased], named: bool) -> Result<bool, Fault> {
     let mut text = String::new();
     for (path, phased) in paths.iter().zip(phased) {
         if named && !phased.printed.is_empty() {
@@ -77,13 +84,14 @@ fn shown(paths: &[std::path::PathBuf], phased: &[Phased], named: bool) -> Result
 
 fn run(words: &Words) -> Result<Status, Fault> {
     let (paths, answers) = (words.rest(), words.has("--answer"));
+    let phase = if words.has("--all-het") { velejume::phase_heterozygous } else { velejume::phase };
     if paths.is_empty() {
         return Err(Fault::Usage("no block is given".to_string()));
     }
     let mut progress = Progress::new(paths.len());
     let mut status = Status::Fine;
     for some in paths.chunks(AT_ONCE) {
-        let phased = corpus::each(some, &mut progress, |path, _| phased(path, answers));
+        let phased = corpus::each(some, &mut progress, |path, _| phased(path, phase, answers));
         status = phased.iter().map(|phased| phased.status).fold(status, Status::max);
         if !shown(some, &phased, paths.len() > 1)? && !answers {
             break;

@@ -1,5 +1,6 @@
 //! The program `velejume`, run: exit status, standard output, standard error.
 
+mod all_het;
 mod answers;
 mod common;
 mod convert;

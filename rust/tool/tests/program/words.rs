@@ -11,7 +11,8 @@ const COMMANDS: [&str; 6] = ["phase", "judge", "answers", "convert", "draw", "ma
 /// The options that a text names.
 fn options(text: &str) -> BTreeSet<String> {
     let parts = text.split("--").skip(1);
-    let names = parts.map(|part| part.chars().take_while(char::is_ascii_lowercase).collect::<String>());
+    let named = |letter: &char| letter.is_ascii_lowercase() || *letter == '-';
+    let names = parts.map(|part| part.chars().take_while(named).collect::<String>());
     names.filter(|name| !name.is_empty()).collect()
 }
 
@@ -39,7 +40,7 @@ fn the_version_is_that_of_the_package() {
 
 #[test]
 fn words_that_are_not_as_they_should_be_get_the_usage_and_status_2() {
-    let wrong: [(&[&str], &str); 38] = [
+    let wrong: [(&[&str], &str); 41] = [
         (&[], "no command is given"),
         (&["what"], "there is no command what"),
         (&["two\nlines"], "there is no command two\\u{a}lines"),
@@ -48,6 +49,8 @@ fn words_that_are_not_as_they_should_be_get_the_usage_and_status_2() {
         (&["phase", "--what"], "there is no option --what"),
         (&["phase", "--answer=x", "a"], "--answer takes no value"),
         (&["phase", "--answer", "--answer", "a"], "--answer is given twice"),
+        (&["phase", "--all-het"], "no block is given"),
+        (&["phase", "--all-het=x", "a"], "--all-het takes no value"),
         (&["judge"], "neither a folder nor a block and an answer are given"),
         (&["judge", "a", "b", "c"], "one folder, or one block and one answer"),
         (&["judge", "--report"], "--report needs a file"),
@@ -56,6 +59,7 @@ fn words_that_are_not_as_they_should_be_get_the_usage_and_status_2() {
         (&["judge", "a", "--part", "3/2"], "--part 3/2: it should be I/N, with I from 1 to N"),
         (&["answers"], "one folder"),
         (&["answers", "a", "b"], "one folder"),
+        (&["answers", "--all-het"], "one folder"),
         (&["answers", "a", "--make"], "there is no option --make"),
         (&["convert", "a", "b"], "several blocks, or a folder, go with --to"),
         (&["convert", "."], "several blocks, or a folder, go with --to"),

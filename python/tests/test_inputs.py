@@ -28,6 +28,7 @@ class Inputs(unittest.TestCase):
         for kind in kinds:
             with self.subTest(type(kind).__name__):
                 self.assertEqual(velejume.phase(kind), ANSWER)
+                self.assertEqual(velejume.phase_heterozygous(kind), velejume.phase_heterozygous(BLOCK))
                 self.assertEqual(velejume.judge(kind, bytearray(ANSWER.block)).number, 57)
                 self.assertEqual(velejume.judge(kind, memoryview(ANSWER.block)).number, 57)
                 self.assertEqual(velejume.matrix_of(kind), velejume.matrix_of(BLOCK))
@@ -36,6 +37,7 @@ class Inputs(unittest.TestCase):
     def test_inputs_are_kept(self):
         block, answer = bytearray(BLOCK), bytearray(ANSWER.block)
         velejume.phase(block)
+        velejume.phase_heterozygous(block)
         velejume.judge(block, answer)
         velejume.convert(block)
         self.assertEqual((bytes(block), bytes(answer)), (BLOCK, ANSWER.block))
@@ -45,7 +47,8 @@ class Inputs(unittest.TestCase):
         wrong = [None, 9, 1.5, "0:5", ["0:5"], [1, 0, 0], object(), array.array("H", [1, 2]), array.array("I", [1])]
         for value in wrong:
             with self.subTest(repr(value)):
-                for call in (velejume.phase, velejume.matrix_of, velejume.convert, lambda block: velejume.judge(block, b""), lambda answer: velejume.judge(BLOCK, answer)):
+                judges = (lambda block: velejume.judge(block, b""), lambda answer: velejume.judge(BLOCK, answer))
+                for call in (velejume.phase, velejume.phase_heterozygous, velejume.matrix_of, velejume.convert, *judges):
                     with self.assertRaises(TypeError):
                         call(value)
 

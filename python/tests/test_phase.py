@@ -1,11 +1,15 @@
+import itertools
 import random
 import unittest
 
 import velejume
 from vectors import REPOSITORY, phased, solved
 from velejume import _calls
+from velejume._library import library
 
 PROGRAMS_ROOM = 16384
+#: the C calls by the modes of the vectors
+CALLS = {"general": library.velejume_phase, "het": library.velejume_phase_heterozygous}
 
 
 class Phase(unittest.TestCase):
@@ -27,16 +31,16 @@ class Phase(unittest.TestCase):
                 else:
                     self.assertEqual(str(velejume.phase(case.block)), case.printed)
 
-    def test_vectors_of_both_versions(self):
+    def test_vectors_of_both_versions_and_modes(self):
         cases = list(solved())
-        for version in (1, 2):
-            self.assertGreaterEqual(sum(case.block[:1] == bytes([version]) for case in cases), 70)
+        for version, mode in itertools.product((1, 2), CALLS):
+            self.assertGreaterEqual(sum((case.block[:1], case.mode) == (bytes([version]), mode) for case in cases), 40)
         for count, case in enumerate(cases):
             with self.subTest(count):
                 work, out = _calls.work_room(len(case.work)), _calls.output_room(len(case.out))
                 work[:] = [0xA5A5A5A5] * len(case.work)
                 out[:] = [0xA5] * len(case.out)
-                self.assertEqual(_calls.phase_in(case.block, work, out), (case.number, case.second))
+                self.assertEqual(_calls.phase_in(case.block, work, out, CALLS[case.mode]), (case.number, case.second))
                 self.assertEqual((list(work), bytes(out)), (case.work, case.out))
 
     def test_weights_of_two_bytes(self):

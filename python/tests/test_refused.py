@@ -38,7 +38,7 @@ class Refusals(unittest.TestCase):
     def test_both_numbers(self):
         self.assertEqual({number for number, _, _ in CASES}, {*range(1, 10), 38})
         for number, second, block in CASES:
-            for call in (velejume.phase, lambda given: velejume.judge(given, velejume.phase(ONE))):
+            for call in (velejume.phase, velejume.phase_heterozygous, lambda given: velejume.judge(given, velejume.phase(ONE))):
                 with self.subTest(number=number, block=block.hex()[:40]):
                     with self.assertRaises(velejume.Refused) as caught:
                         call(block)

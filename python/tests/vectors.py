@@ -15,6 +15,8 @@ class Phased(NamedTuple):
 
 
 class Solved(NamedTuple):
+    #: general or het
+    mode: str
     block: bytes
     #: what the rooms hold afterwards; they are lent as large, with all bytes a5
     work: list
@@ -70,7 +72,7 @@ def _entries(text):
 
 def solved():
     for given, number, second, rooms in _lines("solve.txt"):
-        yield Solved(_bytes(given["block"]), _entries(rooms["work"]), _bytes(rooms["out"]), number, second)
+        yield Solved(given["mode"], _bytes(given["block"]), _entries(rooms["work"]), _bytes(rooms["out"]), number, second)
 
 
 def judged():

@@ -30,7 +30,7 @@ class Answer:
     flips: int
     #: 0 or 1, by read number
     sides: tuple[int, ...]
-    #: the haplotypes of side 0 and of side 1, a letter a column: 0, 1, or - where that side's two sums are equal
+    #: the haplotypes of side 0 and of side 1, a letter a column: 0, 1, or - where both cost the same
     haplotypes: tuple[str, str]
     #: the answer block, version 2
     block: bytes = field(repr=False)

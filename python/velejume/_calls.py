@@ -3,7 +3,7 @@
 from __future__ import annotations
 
 import ctypes
-from typing import Union
+from typing import Callable, Union
 
 from . import _answer, _verdict
 from ._answer import Answer
@@ -43,10 +43,12 @@ def output_room(size: int) -> ctypes.Array[ctypes.c_uint8]:
     return (ctypes.c_uint8 * size)()
 
 
-def phase_in(block: bytes, work: ctypes.Array[ctypes.c_uint32], out: ctypes.Array[ctypes.c_uint8]) -> tuple[int, int]:
-    """Both numbers of the C call, in these rooms."""
+def phase_in(
+    block: bytes, work: ctypes.Array[ctypes.c_uint32], out: ctypes.Array[ctypes.c_uint8], call: Callable[..., int] = library.velejume_phase
+) -> tuple[int, int]:
+    """Both numbers of a C call that phases, in these rooms."""
     second = ctypes.c_uint32()
-    number = library.velejume_phase(block, len(block), work, len(work), out, len(out), ctypes.byref(second))
+    number = call(block, len(block), work, len(work), out, len(out), ctypes.byref(second))
     return number, second.value
 
 
@@ -74,14 +76,34 @@ def phase(block: Bytes, table: bool = False) -> Answer:
     >>> velejume.phase(block, table=True).table
     [[5, 3, 0, 5], [1, 3, 1, 4]]
     """
+    return _phased(library.velejume_phase, block, table)
+
+
+def phase_heterozygous(block: Bytes, table: bool = False) -> Answer:
+    """Phases a fragment block for haplotypes that differ at every column; raises `Refused` as `phase` does. A column is written 0 and 1 or 1 and 0,
+    whichever costs less, and `-` in both where they cost the same. The cost is never below that of `phase`. `judge` takes ours to be the answer
+    of `phase`.
+
+    >>> import velejume
+    >>> block = velejume.block_of("0:9 0:9 0:5 / 1:9 1:9 0:5")
+    >>> velejume.phase(block)
+    Answer(cost=0, flips=0, sides=(0, 1), haplotypes=('000', '110'))
+    >>> velejume.phase_heterozygous(block)
+    Answer(cost=5, flips=1, sides=(0, 1), haplotypes=('00-', '11-'))
+    """
+    return _phased(library.velejume_phase_heterozygous, block, table)
+
+
+def _phased(call: Callable[..., int], block: Bytes, table: bool) -> Answer:
+    """The answer of a C call that phases, in rooms as large as it asks for."""
     block = bytes_of("block", block)
     out = output_room(_LARGEST_ANSWER)
     work = work_room(0)
     # without a work room a block is refused by 10, which says how many entries it takes, if not by a number before it
-    number, second = phase_in(block, work, out)
+    number, second = phase_in(block, work, out, call)
     if number == _WORK_ROOM:
         work = work_room(second)
-        number, second = phase_in(block, work, out)
+        number, second = phase_in(block, work, out, call)
     if number != 0:
         raise Refused(number, second)
     written = bytes(out)

@@ -29,22 +29,23 @@ BEGIN {
   print "use mathlib.Core.List.{List, [], _∷_}"
   print "use Rattle.meaning.specs.Block.{latest, matrixOf}"
   print "use Rattle.meaning.specs.Charge.{charge, leastCost}"
-  print "use Rattle.meaning.specs.Letters.{general}"
+  print "use Rattle.meaning.specs.Letters.{general, heterozygous}"
   print "use Rattle.meaning.specs.Answer.{answer, answerBytes}"
   print "use Rattle.meaning.specs.Refusals.{Numbers, passed, refusal}"
-  print "use Rattle.meaning.specs.Call.{call}"
+  print "use Rattle.meaning.specs.Call.{call, callWith}"
   print "use Rattle.meaning.specs.Convert.{converting}"
   print "use lib.ListN.{replicate}"
   print "use Rattle.meaning.specs.Opened.{opened}"
 }
 /^#/ { next }
-/^mode=general/ {
+/^mode=/ {
   split($0, half, " -> ")
   split(half[1], given, /[ =]/)
   split(half[2], got, /[ =]/)
   block = given[4]
   if (length(block) > 1200 || (got[1] == 0 && !few(value(substr(block, 15, 4)), value(substr(block, 11, 4))))) next
-  printf "\nvector-%d : call %s (replicate %s 2779096485) (replicate %s 165)\n", ++made, bytes(block == "." ? "" : block), given[6], given[8]
+  called = given[2] == "het" ? "callWith heterozygous latest" : "call"
+  printf "\nvector-%d : %s %s (replicate %s 2779096485) (replicate %s 165)\n", ++made, called, bytes(block == "." ? "" : block), given[6], given[8]
   printf "    ≡ record { number = %s; second = %s; work = %s; out = %s }\n", got[1], got[2], numbers(got[4]), bytes(got[6] == "." ? "" : got[6])
   printf "unfolding opened\nvector-%d = refl\n", made
   next

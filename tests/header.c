@@ -1,5 +1,5 @@
-/* What velejume.h says of lengths and versions: NULL with length 0 stands for each room, alone and together with others, both versions
-   of a matrix get the same answer, one is converted into the other, and the constants are the limits of the library. */
+/* What velejume.h says of lengths, versions and modes: NULL with length 0 stands for each room, alone and together with others, both versions
+   of a matrix get the same answer in either mode, one is converted into the other, and the constants are the limits of the library. */
 #include <stdio.h>
 #include <string.h>
 #include <velejume.h>
@@ -15,15 +15,22 @@ static void expect(const char *what, uint32_t number, uint32_t second, uint32_t 
   }
 }
 
-/* 0:5 . / 1:3 0:2 / 1:6 1:1 / . 0:2 and its answer: cost 1, sides 1000, haplotypes 10 and 0- */
+/* the calls that phase: in the general mode and in the all-heterozygous one */
+enum { MODES = 2 };
+typedef uint32_t phasing(const uint8_t *, size_t, uint32_t *, size_t, uint8_t *, size_t, uint32_t *);
+static phasing *const phase_in[MODES] = {velejume_phase, velejume_phase_heterozygous};
+
+/* 0:5 . / 1:3 0:2 / 1:6 1:1 / . 0:2 and its answers: cost 1, sides 1000, haplotypes 10 and 0-, or 10 and 01 where they differ at every column */
 static const uint8_t small[] = {1, 0, 0, 0, 32, 0, 2, 0, 4, 0, 4, 0, 0, 0, 5, 0, 6, 0, 0,
                                 1, 3, 0, 2, 0, 6, 0, 0, 1, 6, 1, 1, 0, 4, 0, 1, 0, 2};
 static const uint8_t wide[] = {2, 0, 0, 0, 38, 0, 2, 0, 4, 0, 5, 0, 0, 0, 0, 5, 0, 8, 0, 0, 1, 0,
                                3, 0, 0, 2, 0, 8, 0, 0, 1, 0, 6, 1, 0, 1, 0, 5, 0, 1, 0, 0, 2}; /* the same in version 2 */
-static const uint8_t answer[] = {2, 0, 0, 0, 20, 0, 0, 0, 1, 0, 0, 0, 1, 0, 4, 0, 2, 1, 0, 0, 0, 1, 0, 0, 2};
-enum { BLOCK = sizeof small, ANSWER = sizeof answer, ENTRIES = 8, BYTES = 25 };
+enum { BLOCK = sizeof small, ENTRIES = 8, BYTES = 25 };
+static const uint8_t answers[MODES][BYTES] = {{2, 0, 0, 0, 20, 0, 0, 0, 1, 0, 0, 0, 1, 0, 4, 0, 2, 1, 0, 0, 0, 1, 0, 0, 2},
+                                              {2, 0, 0, 0, 20, 0, 0, 0, 1, 0, 0, 0, 1, 0, 4, 0, 2, 1, 0, 0, 0, 1, 0, 0, 1}};
+static const uint32_t tables[MODES][ENTRIES] = {{5, 3, 0, 5, 1, 3, 1, 4}, {5, 3, 0, 6, 1, 3, 2, 5}};
 
-static void empty_rooms(void) {
+static void empty_rooms_of_phase(phasing *phase) {
   uint32_t work[ENTRIES], number, second;
   uint8_t out[BYTES];
   for (int empty = 0; empty < 8; empty++) {
@@ -31,14 +38,20 @@ static void empty_rooms(void) {
     size_t block_len = no_block ? 0 : BLOCK, work_len = no_work ? 0 : ENTRIES, out_len = no_out ? 0 : BYTES;
     uint32_t refusal = no_block ? 1 : no_work ? 10 : no_out ? 11 : 0;
     uint32_t beside = no_block ? 0 : no_work ? ENTRIES : no_out ? BYTES : 1;
-    number = velejume_phase(no_block ? NULL : small, block_len, no_work ? NULL : work, work_len, no_out ? NULL : out, out_len, &second);
+    number = phase(no_block ? NULL : small, block_len, no_work ? NULL : work, work_len, no_out ? NULL : out, out_len, &second);
     expect("phase, NULL", refusal, beside, number, second);
-    number = velejume_phase(small, block_len, work, work_len, out, out_len, &second);
+    number = phase(small, block_len, work, work_len, out, out_len, &second);
     expect("phase, length 0", refusal, beside, number, second);
   }
+}
+
+static void empty_rooms(void) {
+  const uint8_t *answer = answers[0];
+  uint32_t work[ENTRIES], number, second;
+  for (int mode = 0; mode < MODES; mode++) empty_rooms_of_phase(phase_in[mode]);
   for (int empty = 0; empty < 8; empty++) {
     int no_block = empty & 1, no_answer = empty & 2, no_work = empty & 4;
-    size_t block_len = no_block ? 0 : BLOCK, answer_len = no_answer ? 0 : ANSWER, work_len = no_work ? 0 : ENTRIES;
+    size_t block_len = no_block ? 0 : BLOCK, answer_len = no_answer ? 0 : BYTES, work_len = no_work ? 0 : ENTRIES;
     uint32_t verdict = no_block ? 1 : no_work ? 10 : no_answer ? 50 : 57;
     uint32_t beside = !no_block && no_work ? ENTRIES : 0;
     number = velejume_judge(no_block ? NULL : small, block_len, no_answer ? NULL : answer, answer_len, no_work ? NULL : work, work_len, &second);
@@ -63,14 +76,19 @@ static void empty_rooms(void) {
 static void versions(void) {
   uint32_t work[2][ENTRIES], number, second;
   uint8_t out[2][BYTES];
-  number = velejume_phase(small, sizeof small, work[0], ENTRIES, out[0], BYTES, &second);
-  expect("version 1", 0, 1, number, second);
-  number = velejume_phase(wide, sizeof wide, work[1], ENTRIES, out[1], BYTES, &second);
-  expect("version 2", 0, 1, number, second);
-  expect("the same tables", 0, 0, (uint32_t)memcmp(work[0], work[1], sizeof work[0]), 0);
-  expect("the same answers", 0, 0, (uint32_t)memcmp(out[0], out[1], BYTES), (uint32_t)memcmp(out[0], answer, BYTES));
-  number = velejume_judge(wide, sizeof wide, answer, ANSWER, work[1], ENTRIES, &second);
-  expect("judge, version 2", 57, 0, number, second);
+  for (int mode = 0; mode < MODES; mode++) {
+    number = phase_in[mode](small, sizeof small, work[0], ENTRIES, out[0], BYTES, &second);
+    expect("version 1", 0, 1, number, second);
+    number = phase_in[mode](wide, sizeof wide, work[1], ENTRIES, out[1], BYTES, &second);
+    expect("version 2", 0, 1, number, second);
+    for (int of = 0; of < 2; of++) {
+      expect("the table", 0, 0, (uint32_t)memcmp(work[of], tables[mode], sizeof tables[mode]), 0);
+      expect("the answer", 0, 0, (uint32_t)memcmp(out[of], answers[mode], BYTES), 0);
+    }
+    /* a letter where that side has no entry is no answer of the general mode */
+    number = velejume_judge(wide, sizeof wide, answers[mode], BYTES, work[1], ENTRIES, &second);
+    expect("judge, version 2", mode == 0 ? 57 : 56, 0, number, second);
+  }
 }
 
 /* . / 0:7 / . of version 1: its read with cells alone is converted */
@@ -125,32 +143,38 @@ static void spread(size_t reads) {
   for (size_t read = 0; read < reads; read++) put(9 + read_bytes * read + 2, read);
 }
 
-static void constants(void) {
+static void constants_of_phase(phasing *phase) {
   uint32_t number, second;
   size_t size = build(VELEJUME_MOST_COLUMNS, VELEJUME_MOST_ACTIVE, VELEJUME_MOST_COLUMNS);
-  number = velejume_phase(block, size, work, VELEJUME_MOST_ENTRIES - 1, out, VELEJUME_LARGEST_ANSWER, &second);
+  number = phase(block, size, work, VELEJUME_MOST_ENTRIES - 1, out, VELEJUME_LARGEST_ANSWER, &second);
   expect("the most entries less one", 10, VELEJUME_MOST_ENTRIES, number, second);
   size = build(VELEJUME_MOST_COLUMNS, VELEJUME_MOST_ACTIVE + 1, VELEJUME_MOST_COLUMNS);
-  number = velejume_phase(block, size, work, VELEJUME_MOST_ENTRIES, out, VELEJUME_LARGEST_ANSWER, &second);
+  number = phase(block, size, work, VELEJUME_MOST_ENTRIES, out, VELEJUME_LARGEST_ANSWER, &second);
   expect("one more active read", 9, 0, number, second);
   size = build(VELEJUME_MOST_COLUMNS, VELEJUME_MOST_READS, 1);
   spread(VELEJUME_MOST_READS);
-  number = velejume_phase(block, size, work, VELEJUME_MOST_ENTRIES, out, VELEJUME_LARGEST_ANSWER - 1, &second);
+  number = phase(block, size, work, VELEJUME_MOST_ENTRIES, out, VELEJUME_LARGEST_ANSWER - 1, &second);
   expect("the largest answer less one", 11, VELEJUME_LARGEST_ANSWER, number, second);
-  number = velejume_phase(block, size, work, VELEJUME_MOST_ENTRIES, out, VELEJUME_LARGEST_ANSWER, &second);
+  number = phase(block, size, work, VELEJUME_MOST_ENTRIES, out, VELEJUME_LARGEST_ANSWER, &second);
   expect("the largest answer", 0, 0, number, second);
   size = build(VELEJUME_MOST_COLUMNS, VELEJUME_MOST_READS, 0);
-  number = velejume_phase(block, size, work, VELEJUME_MOST_ENTRIES, out, VELEJUME_LARGEST_ANSWER, &second);
+  number = phase(block, size, work, VELEJUME_MOST_ENTRIES, out, VELEJUME_LARGEST_ANSWER, &second);
   expect("reads without cells", version == 1 ? 0 : 38, 0, number, second);
   size = build(VELEJUME_MOST_COLUMNS + 1, 0, 0);
-  number = velejume_phase(block, size, work, VELEJUME_MOST_ENTRIES, out, VELEJUME_LARGEST_ANSWER, &second);
+  number = phase(block, size, work, VELEJUME_MOST_ENTRIES, out, VELEJUME_LARGEST_ANSWER, &second);
   expect("one more column", 4, 0, number, second);
   size = build(1, VELEJUME_MOST_READS + 1, 0);
-  number = velejume_phase(block, size, work, VELEJUME_MOST_ENTRIES, out, VELEJUME_LARGEST_ANSWER, &second);
+  number = phase(block, size, work, VELEJUME_MOST_ENTRIES, out, VELEJUME_LARGEST_ANSWER, &second);
   expect("one more read", 4, 0, number, second);
   size = build(VELEJUME_MOST_COLUMNS, VELEJUME_MOST_READS, VELEJUME_MOST_COLUMNS);
-  number = velejume_phase(block, size, work, VELEJUME_MOST_ENTRIES, out, VELEJUME_LARGEST_ANSWER, &second);
+  number = phase(block, size, work, VELEJUME_MOST_ENTRIES, out, VELEJUME_LARGEST_ANSWER, &second);
   expect("the largest block", 9, 0, number, second);
+}
+
+static void constants(void) {
+  uint32_t number, second;
+  for (int mode = 0; mode < MODES; mode++) constants_of_phase(phase_in[mode]);
+  size_t size = build(VELEJUME_MOST_COLUMNS, VELEJUME_MOST_READS, VELEJUME_MOST_COLUMNS);
   expect("its length", version == 1 ? 2101257 : VELEJUME_LARGEST_BLOCK, 0, (uint32_t)size, 0);
   number = velejume_convert(block, size, converted, VELEJUME_LARGEST_BLOCK - 1, &second);
   expect("a byte too few for it", version == 1 ? 39 : 2, version == 1 ? VELEJUME_LARGEST_BLOCK : 0, number, second);

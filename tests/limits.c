@@ -1,10 +1,11 @@
-/* Both sides of every limit in both versions, through the C names: numbers, what the rooms hold, and a guard behind each room. The
+/* Both sides of every limit in both versions and both modes, through the C names: numbers, what the rooms hold, and a guard behind each room. The
    largest block, 1,024 columns under 12 reads, is held against plain search through its 2,048 divisions: every table entry too. */
 typedef unsigned char u8;
 typedef unsigned int u32;
 typedef unsigned long usize;
 
-u32 velejume_phase(const u8 *block, usize block_len, u32 *work, usize work_len, u8 *out, usize out_len, u32 *second);
+typedef u32 phasing(const u8 *block, usize block_len, u32 *work, usize work_len, u8 *out, usize out_len, u32 *second);
+phasing velejume_phase, velejume_phase_heterozygous;
 u32 velejume_convert(const u8 *block, usize block_len, u8 *out, usize out_len, u32 *second);
 int printf(const char *format, ...);
 
@@ -80,12 +81,16 @@ static void finish(void) {
   block[4] = (u8)length;
 }
 
+/* whether the haplotypes are to differ at every column */
+static int heterozygous;
+
 /* one call with rooms of these sizes: the numbers, and that a refusal and the guards leave everything as it was */
 static void call(usize work_len, usize out_len, u32 number, u32 second, const char *what) {
   for (usize i = 0; i < work_len + GUARD; i++) work[i] = 7777;
   for (usize i = 0; i < out_len + GUARD; i++) out[i] = 77;
   u32 got = 99999;
-  u32 answered = velejume_phase(block, size, work, work_len, out, out_len, &got);
+  phasing *phase = heterozygous ? velejume_phase_heterozygous : velejume_phase;
+  u32 answered = phase(block, size, work, work_len, out, out_len, &got);
   int kept = 1;
   for (usize i = number ? 0 : work_len; i < work_len + GUARD; i++) kept &= work[i] == 7777;
   for (usize i = number ? 0 : out_len; i < out_len + GUARD; i++) kept &= out[i] == 77;
@@ -107,6 +112,11 @@ static void convert(usize out_len, u32 number, u32 second, const char *what) {
 
 static u32 lesser(u32 a, u32 b) { return a < b ? a : b; }
 
+/* by the weights of entries, by side and letter */
+static u32 charge(u32 w[2][2]) {
+  return heterozygous ? lesser(w[0][1] + w[1][0], w[0][0] + w[1][1]) : lesser(w[0][0], w[0][1]) + lesser(w[1][0], w[1][1]);
+}
+
 /* 12 reads over all columns: entry k of column j is the sum of charges to j of the one division that k stands for */
 static void largest(void) {
   static u32 sums[2048];
@@ -126,7 +136,7 @@ static void largest(void) {
         usize cell = 9 + r * (4 + bytes * m) + 4 + bytes * j;
         w[r ? k >> (r - 1) & 1 : 0][block[cell]] += weight_at(cell);
       }
-      sums[k] += lesser(w[0][0], w[0][1]) + lesser(w[1][0], w[1][1]);
+      sums[k] += charge(w);
       right &= work[j * 2048 + k] == sums[k];
     }
   expect(right, "every entry of the largest table");
@@ -242,12 +252,14 @@ static void limits(void) {
 }
 
 int main(void) {
-  version = 1, bytes = 2, heaviest = 255, limits();
-  version = 2, bytes = 3, heaviest = 65535, limits();
-  begin(1, 0), finish();
-  for (u32 other = 0; other < 256; other++) {
-    block[0] = (u8)other;
-    call(1, MOST_OUT, other == 1 || other == 2 ? 0 : 2, 0, "each version byte");
+  for (heterozygous = 0; heterozygous < 2; heterozygous++) {
+    version = 1, bytes = 2, heaviest = 255, limits();
+    version = 2, bytes = 3, heaviest = 65535, limits();
+    begin(1, 0), finish();
+    for (u32 other = 0; other < 256; other++) {
+      block[0] = (u8)other;
+      call(1, MOST_OUT, other == 1 || other == 2 ? 0 : 2, 0, "each version byte");
+    }
   }
   printf("%d passed, %d failed\n", passed, failed);
   return failed != 0;

@@ -1,4 +1,4 @@
-/* The call against plain search: random blocks of up to 8 reads, solved here by trying every division, with no thought of
+/* Phasing in both modes against plain search: random blocks of up to 8 reads, solved here by trying every division, with no thought of
    columns that follow from one another. Both numbers, every entry of the work room and every byte of the output are compared,
    and guards behind both rooms. Blocks of both versions come gapless, in pairs, with holes, with ties, weight 0 and empty reads, which
    version 2 refuses, and damaged. Each block is converted too, against a converter of its own. */
@@ -6,7 +6,8 @@ typedef unsigned char u8;
 typedef unsigned int u32;
 typedef unsigned long usize;
 
-u32 velejume_phase(const u8 *block, usize block_len, u32 *work, usize work_len, u8 *out, usize out_len, u32 *second);
+typedef u32 phasing(const u8 *block, usize block_len, u32 *work, usize work_len, u8 *out, usize out_len, u32 *second);
+phasing velejume_phase, velejume_phase_heterozygous;
 u32 velejume_convert(const u8 *block, usize block_len, u8 *out, usize out_len, u32 *second);
 int printf(const char *format, ...);
 
@@ -84,10 +85,26 @@ static void weigh(u32 division, u32 j, u32 w[2][2]) {
 }
 
 static u32 lesser(u32 a, u32 b) { return a < b ? a : b; }
+
+/* whether the haplotypes are to differ at every column; then a column costs as much with 0 on haplotype 1 and 1 on haplotype 2, or with 1 and 0 */
+static int heterozygous;
+static u32 zero_one(u32 w[2][2]) { return w[0][1] + w[1][0]; }
+static u32 one_zero(u32 w[2][2]) { return w[0][0] + w[1][1]; }
+
 static u32 charge(u32 division, u32 j) {
   u32 w[2][2];
   weigh(division, j, w);
-  return lesser(w[0][0], w[0][1]) + lesser(w[1][0], w[1][1]);
+  return heterozygous ? lesser(zero_one(w), one_zero(w)) : lesser(w[0][0], w[0][1]) + lesser(w[1][0], w[1][1]);
+}
+
+/* the letter of a side, and whether none is reported */
+static u8 letter_of(u32 w[2][2], u32 side, int *tie) {
+  if (heterozygous) {
+    *tie = zero_one(w) == one_zero(w);
+    return (zero_one(w) < one_zero(w) ? 0 : 1) ^ (u8)side;
+  }
+  *tie = w[side][0] == w[side][1];
+  return w[side][1] < w[side][0] ? 0 : 1;
 }
 
 static void byte4(usize at, u32 x) {
@@ -148,8 +165,9 @@ static void search(usize work_len, usize out_len) {
     u32 w[2][2];
     weigh(best, j, w);
     for (u32 s = 0; s < 2; s++) {
-      u8 l = w[s][1] < w[s][0] ? 0 : 1;
-      answer[17 + n + s * m + j] = w[s][0] == w[s][1] ? 2 : l;
+      int tie;
+      u8 l = letter_of(w, s, &tie);
+      answer[17 + n + s * m + j] = tie ? 2 : l;
       for (u32 r = 0; r < n; r++) flips += (best >> r & 1) == s && letter_at(r, j) < 2 && letter_at(r, j) != l;
     }
   }
@@ -263,10 +281,21 @@ static int converts(usize out_len) {
   return 1;
 }
 
-int main(void) {
+/* whether a phasing in rooms of these sizes gives and leaves what the search does; of a block that has no answer the numbers are there already */
+static int phases(usize work_len, usize out_len, int solvable, u32 i) {
   static u32 work[WORK + GUARD];
   static u8 out[OUT + GUARD];
-  u32 seen[2][39] = {{0}}, turned[40] = {0}, passed = 0, failed = 0, damaged = 0, blocks = 0;
+  if (solvable) search(work_len, out_len);
+  for (usize k = 0; k < work_len + GUARD; k++) work[k] = 5000 + (u32)k;
+  for (usize k = 0; k < out_len + GUARD; k++) out[k] = (u8)(100 + k);
+  u32 got = 0, given = (heterozygous ? velejume_phase_heterozygous : velejume_phase)(block, size, work, work_len, out, out_len, &got);
+  if (same(given, got, work, work_len, out, out_len)) return 1;
+  printf("search: case %u, mode %d: expected %u at %u, given %u at %u\n", i, heterozygous, number, second, given, got);
+  return 0;
+}
+
+int main(void) {
+  u32 seen[2][39] = {{0}}, turned[40] = {0}, passed = 0, failed = 0, damaged = 0, blocks = 0, above = 0;
   state = 20150601;
   for (u32 i = 0; i < 16000; i++) {
     u32 version = 1 + i / 4 % 2;
@@ -275,17 +304,13 @@ int main(void) {
     usize work_len = next(3) ? WORK : next(600), out_len = next(3) ? OUT : next(60);
     int solvable = checked();
     if (solvable && (m > COLUMNS || n > READS)) continue;
-    if (solvable) search(work_len, out_len);
-    for (usize k = 0; k < work_len + GUARD; k++) work[k] = 5000 + (u32)k;
-    for (usize k = 0; k < out_len + GUARD; k++) out[k] = (u8)(100 + k);
-    u32 got = 0;
-    u32 given = velejume_phase(block, size, work, work_len, out, out_len, &got);
-    if (same(given, got, work, work_len, out, out_len)) {
-      passed++;
-    } else {
-      failed++;
-      printf("search: case %u: expected %u at %u, given %u at %u\n", i, number, second, given, got);
+    u32 costs[2];
+    for (heterozygous = 0; heterozygous < 2; heterozygous++) {
+      if (phases(work_len, out_len, solvable, i)) passed++;
+      else failed++;
+      costs[heterozygous] = second;
     }
+    above += number == 0 && costs[0] < costs[1];
     seen[version - 1][number]++, blocks++;
     usize room = next(3) ? 2 * BLOCK : next(120);
     widen(room);
@@ -306,6 +331,8 @@ int main(void) {
     if (!given[38] && version == 2) failed++, printf("search: number 38 was never given in version 2\n");
     printf("search: version %u, accepted %u, refused by 5, 38, 6, 7: %u, %u, %u, %u\n", version, given[0], given[5], given[38], given[6], given[7]);
   }
+  if (!above) failed++, printf("search: no cost of the all-heterozygous mode was above the general one\n");
+  printf("search: %u cost more in the all-heterozygous mode\n", above);
   printf("search: %u converted, %u refused by 2, %u by 39\n", turned[0], turned[2], turned[39]);
   printf("search: %u blocks, %u of them damaged\n", blocks, damaged);
   printf("%u passed, %u failed\n", passed, failed);

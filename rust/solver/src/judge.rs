@@ -5,8 +5,8 @@ use crate::{Block, Mode, Numbers, Phase, Stated};
 /// The bytes of the longest answer: 1,024 reads and 1,024 columns.
 const LONGEST: usize = 17 + 1024 + 2 * 1024;
 
-/// Judges a builder's answer beside the one that `phase` finds in the general mode: the refusal of the block, 1 to 10 or 38, or the first verdict
-/// that applies, with the table in the work room.
+/// Judges a builder's answer beside the one that `phase` finds in the general mode: the refusal of the block, 1 to 10 or 38, or the
+/// first verdict that applies, with the table in the work room.
 pub fn judge(phase: Phase, block: &[u8], answer: &[u8], work: &mut [u32]) -> Numbers {
     let mut ours = vec![0; LONGEST];
     match (phase(Mode::General, block, work, &mut ours), Block::read(block)) {

@@ -27,8 +27,8 @@ fn split(block: &Block) -> Vec<Vec<Read>> {
     block.reads.iter().map(split).collect()
 }
 
-/// Phases a block in the general mode, forgetting each read in its holes. Cost, flips and letters are those of the divided runs; a read's side is
-/// that of its first run, which the way back meets last. Refusals are as they should be.
+/// Phases a block in the general mode, forgetting each read in its holes. Cost, flips and letters are those of the divided runs; a
+/// read's side is that of its first run, which the way back meets last. Refusals are as they should be.
 pub fn forgetful(bytes: &[u8], work: &mut [u32], out: &mut [u8]) -> Numbers {
     match Placed::accepted(bytes, work.len(), out.len()) {
         Ok(placed) if placed.block.cell == NARROW => forgotten::<NARROW>(&placed, work, out),

@@ -6,36 +6,35 @@ use crate::Block;
 use crate::block::NARROW;
 use crate::checks::entries;
 
-/// The sums in one word. In the general mode, of weights of one byte (12 reads weigh at most 3,060) all four, 16 bits each: side 0's
-/// letters 0 and 1, then side 1's. Of weights of two bytes (12 reads weigh at most 786,420) side 0's, 32 bits each; side 1's are what
-/// is left of the sums with all reads on side 0. In the all-heterozygous mode the two that its charge is the lesser of, 32 bits each:
-/// what is 0 on side 0 or 1 on side 1, and what is 1 on side 0 or 0 on side 1.
+/// The four sums in one word. Of weights of one byte (12 reads weigh at most 3,060) all of them, 16 bits each: side 0's letters 0 and 1,
+/// then side 1's. Of weights of two bytes (12 reads weigh at most 786,420) side 0's, 32 bits each; side 1's are what is left of the
+/// sums with all reads on side 0.
 type Sums = u64;
 
-/// The charge, by the sums and by what they are with all reads on side 0.
+/// The charge of the mode, by the sums and by what they are with all reads on side 0.
 fn charge<const CELL: usize, const HETEROZYGOUS: bool>(sums: Sums, all: Sums) -> u32 {
-    let least = |sums: Sums| (sums as u32).min((sums >> 32) as u32);
-    if HETEROZYGOUS {
-        least(sums)
-    } else if CELL == NARROW {
+    if CELL == NARROW {
         let lane = |i: u32| (sums >> (16 * i)) as u16;
-        u32::from(lane(0).min(lane(1))) + u32::from(lane(2).min(lane(3)))
+        if HETEROZYGOUS {
+            u32::from((lane(0) + lane(3)).min(lane(1) + lane(2)))
+        } else {
+            u32::from(lane(0).min(lane(1))) + u32::from(lane(2).min(lane(3)))
+        }
     } else {
-        least(sums) + least(all - sums)
+        let pair = |sums: Sums| (sums as u32, (sums >> 32) as u32);
+        let ((a, b), (c, d)) = (pair(sums), pair(all - sums));
+        if HETEROZYGOUS { (a + d).min(b + c) } else { a.min(b) + c.min(d) }
     }
 }
 
 /// What an entry adds to the sums on side 0, and when it goes from there to side 1.
-fn adds<const CELL: usize, const HETEROZYGOUS: bool>(letter: u8, weight: u32) -> (Sums, Sums) {
-    let bits = if CELL == NARROW && !HETEROZYGOUS { 16 } else { 32 };
-    let lane = |letter: u8| Sums::from(weight) << (bits * (letter & 1));
-    let added = lane(letter);
-    if HETEROZYGOUS {
-        (added, lane(letter ^ 1).wrapping_sub(added))
-    } else if CELL == NARROW {
-        (added, (added << 32).wrapping_sub(added))
+fn adds<const CELL: usize>(letter: u8, weight: u32) -> (Sums, Sums) {
+    if CELL == NARROW {
+        let weight = Sums::from(weight) << (16 * (letter & 1));
+        (weight, (weight << 32).wrapping_sub(weight))
     } else {
-        (added, added.wrapping_neg())
+        let weight = Sums::from(weight) << (32 * (letter & 1));
+        (weight, weight.wrapping_neg())
     }
 }
 
@@ -53,7 +52,7 @@ fn turn(shared: usize, classes: usize) -> usize {
 }
 
 /// The steps of a column, and the sums with all reads on side 0.
-fn steps<const CELL: usize, const HETEROZYGOUS: bool>(block: &Block, pile: &Pile, column: usize) -> (Steps, Sums) {
+fn steps<const CELL: usize>(block: &Block, pile: &Pile, column: usize) -> (Steps, Sums) {
     let classes = entries(pile.joined());
     let mut steps = Steps { moves: [0; 12], turns: [0; 12] };
     let mut sums = 0;
@@ -63,7 +62,7 @@ fn steps<const CELL: usize, const HETEROZYGOUS: bool>(block: &Block, pile: &Pile
         unsafe {
             let read = block.reads.get_unchecked(usize::from(number));
             let (letter, weight) = block.cell_at::<CELL>(read, column);
-            let (added, moved) = adds::<CELL, HETEROZYGOUS>(letter, weight);
+            let (added, moved) = adds::<CELL>(letter, weight);
             sums += added;
             *steps.moves.get_unchecked_mut(i) = moved;
             if usize::from(read.first) < column {
@@ -83,7 +82,7 @@ pub fn fill<const EIGHT: bool, const CELL: usize, const HETEROZYGOUS: bool>(
     carried: &[u32],
     part: &mut [u32],
 ) {
-    let (steps, sums) = steps::<CELL, HETEROZYGOUS>(block, pile, column);
+    let (steps, sums) = steps::<CELL>(block, pile, column);
     // SAFETY: `part` has an entry for each division of the pile, `carried` one for each division of its shared reads
     unsafe {
         if !EIGHT || part.len() < 8 {

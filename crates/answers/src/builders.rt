@@ -9,6 +9,7 @@ use cases::damage::byte_at;
 use cases::damage::cut;
 use cases::damage::longer;
 use cases::random::below;
+use exhaustive::charge::GENERAL;
 use exhaustive::output::Output;
 use exhaustive::rooms::ample;
 use exhaustive::rooms::fill_table;
@@ -63,7 +64,7 @@ fn ours(block: &[u8], answer: &mut Bytes) {
     let mut table = [0u32; 16385];
     let mut out = [0u8; 4096];
     fill_table(&mut table);
-    solve(block, ample(), &mut table, &mut out);
+    solve(block, GENERAL, ample(), &mut table, &mut out);
     copy(&out, answer);
 }
 

@@ -1,5 +1,6 @@
 // A builder's answer, judged as document 02 says, straight from the bytes of the block and of the answer: the first verdict that applies.
 // The least cost, our answer and the table are the exhaustive solver's.
+use exhaustive::charge::GENERAL;
 use exhaustive::output::Output;
 use exhaustive::refusals::Numbers;
 use exhaustive::refusals::behind;
@@ -205,7 +206,7 @@ fn verdict(block: &[u8], answer: &[u8], least: usize, ours: &Output) -> Numbers 
 // Both numbers for a work room of this size, and the table in it if the block is accepted.
 pub fn judging(block: &[u8], answer: &[u8], work: usize, table: &mut Table) -> Numbers {
     let mut ours = [0u8; 4096];
-    let solved = solve(block, lent(work, 4096), table, &mut ours);
+    let solved = solve(block, GENERAL, lent(work, 4096), table, &mut ours);
     if solved.number > 0 {
         return solved;
     }

@@ -3,4 +3,6 @@ pub mod alike;
 pub mod damage;
 pub mod examples;
 pub mod generate;
+pub mod kinds;
 pub mod random;
+pub mod stated;

@@ -80,6 +80,7 @@ fn follow(
     n: usize,
     m: usize,
     t: usize,
+    heterozygous: bool,
     table: &mut Table,
 ) -> u32
     requires { ⌜ (n ≤ 16) × (m ≤ 1024) ⌝ }
@@ -88,7 +89,7 @@ fn follow(
     let mut from: usize = 0;
     let mut j: usize = 0;
     while j < m {
-        total = sum(total, charge(cells, sides, n, j));
+        total = sum(total, charge(cells, sides, n, j, heterozygous));
         keep(table, from, entry(first, end, sides, n, j), total);
         from = plus(from, t);
         j += 1;
@@ -128,6 +129,7 @@ pub fn walk(
     n: usize,
     m: usize,
     t: usize,
+    heterozygous: bool,
     table: &mut Table,
 ) -> Best
     requires { ⌜ (n ≤ 16) × (m ≤ 1024) ⌝ }
@@ -139,7 +141,7 @@ pub fn walk(
     let mut d: usize = 0;
     while d < count {
         divide(d, n, &mut sides);
-        let c = follow(first, end, cells, &sides, n, m, t, table);
+        let c = follow(first, end, cells, &sides, n, m, t, heterozygous, table);
         if c < cost {
             cost = c;
             best = d;

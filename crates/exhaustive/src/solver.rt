@@ -107,18 +107,25 @@ fn clear_rest(table: &mut Table, count: usize) {
 }
 
 // The letters of both haplotypes, into the answer block; and the number of flips.
-fn put_letters(cells: &Cells, sides: &Sides, n: usize, m: usize, answer: &mut Output) -> u32
+fn put_letters(
+    cells: &Cells,
+    sides: &Sides,
+    n: usize,
+    m: usize,
+    heterozygous: bool,
+    answer: &mut Output,
+) -> u32
     requires { ⌜ (n ≤ 16) × (m ≤ 1024) ⌝ }
 {
     let mut total: u32 = 0;
     let mut j: usize = 0;
     while j < m {
-        let one = letter(cells, sides, n, j, 0);
-        let two = letter(cells, sides, n, j, 1);
+        let one = letter(cells, sides, n, j, 0, heterozygous);
+        let two = letter(cells, sides, n, j, 1, heterozygous);
         answer[17 + n + j] = one;
         answer[17 + n + m + j] = two;
-        total = sum(total, flips(cells, sides, n, j, 0, one));
-        total = sum(total, flips(cells, sides, n, j, 1, two));
+        total = sum(total, flips(cells, sides, n, j, 0, one, heterozygous));
+        total = sum(total, flips(cells, sides, n, j, 1, two, heterozygous));
         j += 1;
     }
     total
@@ -137,18 +144,34 @@ fn put_sides(end: &Columns, sides: &Sides, n: usize, answer: &mut Output)
 }
 
 // The answer block of a division, which is by rows; `end` is by reads.
-fn put_answer(end: &Columns, cells: &Cells, n: usize, m: usize, best: Best, answer: &mut Output)
+fn put_answer(
+    end: &Columns,
+    cells: &Cells,
+    n: usize,
+    m: usize,
+    best: Best,
+    heterozygous: bool,
+    answer: &mut Output,
+)
     requires { ⌜ (n ≤ 16) × (m ≤ 1024) ⌝ }
 {
     let mut sides = [0u8; 16];
     divide(best.place, n, &mut sides);
-    let flips = put_letters(cells, &sides, n, m, answer);
+    let flips = put_letters(cells, &sides, n, m, heterozygous, answer);
     put_sides(end, &sides, n, answer);
     put_head(answer, long(best.cost), long(flips), n, m);
 }
 
 // The table and the answer block of a block that is accepted; and its cost.
-fn accept(block: &[u8], n: usize, m: usize, t: usize, table: &mut Table, answer: &mut Output) -> u32
+fn accept(
+    block: &[u8],
+    n: usize,
+    m: usize,
+    t: usize,
+    heterozygous: bool,
+    table: &mut Table,
+    answer: &mut Output,
+) -> u32
     requires { ⌜ (n ≤ 16) × (m ≤ 1024) ⌝ }
 {
     let mut first = [0usize; 16];
@@ -166,13 +189,20 @@ fn accept(block: &[u8], n: usize, m: usize, t: usize, table: &mut Table, answer:
         &mut row_end,
         &mut cells,
     );
-    let best = walk(&row_first, &row_end, &cells, n, m, t, table);
-    put_answer(&end, &cells, n, m, best, answer);
+    let best = walk(&row_first, &row_end, &cells, n, m, t, heterozygous, table);
+    put_answer(&end, &cells, n, m, best, heterozygous, answer);
     best.cost
 }
 
-// Solves a block for rooms of these sizes: both numbers, and on acceptance the table and the answer block from the front of each room.
-pub fn solve(block: &[u8], rooms: Rooms, table: &mut Table, answer: &mut Output) -> Numbers {
+// Solves a block in a mode, for rooms of these sizes: both numbers, and on acceptance the table and the answer block from the front of
+// each room.
+pub fn solve(
+    block: &[u8],
+    heterozygous: bool,
+    rooms: Rooms,
+    table: &mut Table,
+    answer: &mut Output,
+) -> Numbers {
     let s = measure(block);
     if s.number > 0 {
         return given(s.number, s.second);
@@ -183,7 +213,7 @@ pub fn solve(block: &[u8], rooms: Rooms, table: &mut Table, answer: &mut Output)
     if rooms.out < s.out {
         return given(11, s.out);
     }
-    let cost = accept(block, s.n, s.m, s.t, table, answer);
+    let cost = accept(block, s.n, s.m, s.t, heterozygous, table, answer);
     clear_rest(table, s.work);
     given(0, long(cost))
 }

@@ -4,10 +4,10 @@ use Rattle.exhaustive.proofs.search.follow.Statement.{statement}
 use Rattle.exhaustive.proofs.search.follow.Tie as tie
 
 abbrev Inv-loop : tie.InvT-loop
-Inv-loop first end cells sides n m t table₀ total₀ from₀ j₀ table total from j = j ≤ m
+Inv-loop first end cells sides n m t heterozygous table₀ total₀ from₀ j₀ table total from j = j ≤ m
 
 abbrev μ-loop : tie.MeasureT-loop
-μ-loop first end cells sides n m t table₀ total₀ from₀ j₀ table total from j = m - j
+μ-loop first end cells sides n m t heterozygous table₀ total₀ from₀ j₀ table total from j = m - j
 
 loop-holds : tie.Need-loop-holds Inv-loop μ-loop
 loop-holds c = search needs

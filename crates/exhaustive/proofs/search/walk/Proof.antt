@@ -4,10 +4,10 @@ use Rattle.exhaustive.proofs.search.walk.Statement.{statement}
 use Rattle.exhaustive.proofs.search.walk.Tie as tie
 
 abbrev Inv-loop : tie.InvT-loop
-Inv-loop first end cells n m t table₀ sides₀ best₀ cost₀ count d₀ table sides best cost d = d ≤ count
+Inv-loop first end cells n m t heterozygous table₀ sides₀ best₀ cost₀ count d₀ table sides best cost d = d ≤ count
 
 abbrev μ-loop : tie.MeasureT-loop
-μ-loop first end cells n m t table₀ sides₀ best₀ cost₀ count d₀ table sides best cost d = count - d
+μ-loop first end cells n m t heterozygous table₀ sides₀ best₀ cost₀ count d₀ table sides best cost d = count - d
 
 doubled-requires : tie.Need-doubled-requires Inv-loop μ-loop
 doubled-requires c κs = search needs

@@ -4,10 +4,10 @@ use Rattle.exhaustive.proofs.solver.put_letters.Statement.{statement}
 use Rattle.exhaustive.proofs.solver.put_letters.Tie as tie
 
 abbrev Inv-loop : tie.InvT-loop
-Inv-loop cells sides n m answer₀ total₀ j₀ answer total j = j ≤ m
+Inv-loop cells sides n m heterozygous answer₀ total₀ j₀ answer total j = j ≤ m
 
 abbrev μ-loop : tie.MeasureT-loop
-μ-loop cells sides n m answer₀ total₀ j₀ answer total j = m - j
+μ-loop cells sides n m heterozygous answer₀ total₀ j₀ answer total j = m - j
 
 loop-holds : tie.Need-loop-holds Inv-loop μ-loop
 loop-holds c = search needs

@@ -45,10 +45,10 @@ class Inputs(unittest.TestCase):
 
     def test_other_types(self):
         wrong = [None, 9, 1.5, "0:5", ["0:5"], [1, 0, 0], object(), array.array("H", [1, 2]), array.array("I", [1])]
+        judging = (lambda block: velejume.judge(block, b""), lambda answer: velejume.judge(BLOCK, answer))
         for value in wrong:
             with self.subTest(repr(value)):
-                judges = (lambda block: velejume.judge(block, b""), lambda answer: velejume.judge(BLOCK, answer))
-                for call in (velejume.phase, velejume.phase_heterozygous, velejume.matrix_of, velejume.convert, *judges):
+                for call in (velejume.phase, velejume.phase_heterozygous, velejume.matrix_of, velejume.convert, *judging):
                     with self.assertRaises(TypeError):
                         call(value)
 

@@ -30,7 +30,8 @@ class Blocks(unittest.TestCase):
         self.assertEqual(velejume.block_of("0:0", columns=1024)[5:7].hex(), "0400")
 
     def test_versions(self):
-        self.assertEqual(velejume.block_of("0:4 . 1:255", version=2).hex(), "02000000" + "11" + "0003" + "0001" + "000b" + "0000" + "000004" + "020000" + "0100ff")
+        cells = "000004" + "020000" + "0100ff"
+        self.assertEqual(velejume.block_of("0:4 . 1:255", version=2).hex(), "02000000" + "11" + "0003" + "0001" + "000b" + "0000" + cells)
         self.assertEqual(velejume.block_of("0:256").hex(), "02000000" + "0b" + "0001" + "0001" + "0005" + "0000" + "000100")
         self.assertEqual([velejume.block_of(text)[0] for text in ("0:255", "0:256", "1:65535", ".")], [1, 2, 2, 1])
         with self.assertRaisesRegex(ValueError, "^row 2, entry 3: weight 256 is above 255, which takes version 2$"):
@@ -65,7 +66,8 @@ class Blocks(unittest.TestCase):
                 with self.assertRaises(ValueError) as caught:
                     velejume.block_of(text)
                 self.assertIn(words, str(caught.exception))
-        for text, columns, words in (("0:5 0:5", 1, "row 1 has 2 entries, columns given: 1"), (".", 0, "0 columns"), ("", 1025, "1025 columns"), ("", -1, "-1 columns")):
+        sizes = (("0:5 0:5", 1, "row 1 has 2 entries, columns given: 1"), (".", 0, "0 columns"), ("", 1025, "1025 columns"), ("", -1, "-1 columns"))
+        for text, columns, words in sizes:
             with self.subTest(text, columns=columns):
                 with self.assertRaisesRegex(ValueError, words):
                     velejume.block_of(text, columns)

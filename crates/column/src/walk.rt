@@ -62,7 +62,8 @@ fn step(
     part: &mut [u32],
 ) -> [[u32; 2]; 2]
     requires { ⌜ Turns (now w) (now turn) (c .p) (levelAt (c .heterozygous) (now w) (c .p)) (now taken) (x .n) (now part) s (x .k) (x .q) d from ⌝ }
-    ensures { λ r. ⌜ Walked (now (w .entry)) (now (turn .entry)) (c .p) (levelAt (c .heterozygous) (now (w .entry)) (c .p)) (now (taken .entry)) (x .n + 1) (now (part .exit)) r
+    ensures { λ r. ⌜ Walked (now (w .entry)) (now (turn .entry)) (c .p) (levelAt (c .heterozygous) (now (w .entry)) (c .p))
+        (now (taken .entry)) (x .n + 1) (now (part .exit)) r
         (bitXor (x .k) (2 ^ d)) (bitXor (x .q) (getD (now (turn .entry)) (d + 1) 0)) ⌝ }
 {
     let t = sums::moved(s, w[d + 1], from);
@@ -84,7 +85,8 @@ fn three(
 ) -> [[u32; 2]; 2]
     requires { ⌜ (3 ≤ c .p) × (x .n % 4 ≡ 0) × (x .n < used (c .p))
         × Walked (now w) (now turn) (c .p) (levelAt (c .heterozygous) (now w) (c .p)) (now taken) (x .n + 1) (now part) s (x .k) (x .q) ⌝ }
-    ensures { λ r. ⌜ Walked (now (w .entry)) (now (turn .entry)) (c .p) (levelAt (c .heterozygous) (now (w .entry)) (c .p)) (now (taken .entry)) (x .n + 4) (now (part .exit)) r
+    ensures { λ r. ⌜ Walked (now (w .entry)) (now (turn .entry)) (c .p) (levelAt (c .heterozygous) (now (w .entry)) (c .p))
+        (now (taken .entry)) (x .n + 4) (now (part .exit)) r
         (bitXor (x .k) 2) (bitXor (x .q) (getD (now (turn .entry)) 2 0)) ⌝ }
 {
     let n = x.n;

@@ -17,6 +17,8 @@ use Rattle.meaning.proofs.Totals.{sum-ext, sum-add, sum-times, sum-bound}
 use Rattle.meaning.proofs.Bounds.{Light, sums-bound}
 use Rattle.sums.specs.Sums.{arrayOf, pairAt}
 use Rattle.tally.specs.Tally.{unit, tallyOf, talliedTo, place, Tallied}
+use Rattle.meaning.specs.Margins.{marginOf}
+use Rattle.letters.specs.declared.Margins.{Margins}
 use Rattle.letters.specs.Lettered.{Lettered}
 use Rattle.tally.proofs.Turns.{bit-small}
 
@@ -104,14 +106,15 @@ module _ (M : Matrix) (sides tally : List ℕ) (of : Tallied M sides tally) (j :
       go c false = omega arith
       go c true = omega arith
 
-  -- the letters, and each side's entries against its letter
+  -- the letters, each side's entries against its letter, and the margins
   pub lettered : (mode : Mode) (f g a c x y : ℕ) → f ≡ reported mode (W M d j) false → g ≡ reported mode (W M d j) true
       → a ≡ bit (mode .letter (W M d j) false) → c ≡ bit (mode .letter (W M d j) true)
       → ((l : Letter) → a ≡ bit l → x ≡ pairAt (getD tally (4 * j + 1) 0 / unit ∷ getD tally (4 * j) 0 / unit ∷ []) l)
       → ((l : Letter) → c ≡ bit l → y ≡ pairAt (getD tally (4 * j + 3) 0 / unit ∷ getD tally (4 * j + 2) 0 / unit ∷ []) l)
-      → Lettered mode M d j (record { first = f; second = g; flips = x + y })
+      → (z : Margins) → z .first ≡ marginOf mode (W M d j) false → z .second ≡ marginOf mode (W M d j) true
+      → Lettered mode M d j (record { first = f; second = g; flips = x + y; margins = z })
   unfolding haplotypes
-  lettered mode f g a c x y ef eg ea ec hx hy =
+  lettered mode f g a c x y ef eg ea ec hx hy z ez fz =
       let h : Side → Letter = mode .letter (W M d j) in
       let zero-side : x ≡ flipsOf M d j false (h false) =
       hx (h false) ea
@@ -130,4 +133,6 @@ module _ (M : Matrix) (sides tally : List ℕ) (of : Tallied M sides tally) (j :
         second-is = eg;
         flips-are = sum;
         flips-few = omega (arith, sum, of .few-reads, most);
+        first-margin-is = ez;
+        second-margin-is = fz;
       }

@@ -1,4 +1,4 @@
--- A side's letter, what is reported of it, and its entries against a letter.
+-- A side's letter, what is reported of it, its margin, and its entries against a letter.
 use Prim.Native.Nat.{ℕ, _-_, _/_, _%_, _≤_, _<_}
 use borrow.Author.Tests.{ltb-true, ltb-false, eqb-false}
 use lib.Dec.{ltb, eqb}
@@ -12,6 +12,7 @@ use Rattle.meaning.specs.Numbers.{bit}
 use Rattle.meaning.specs.Division.{Side}
 use Rattle.meaning.specs.Charge.{Letter, Sums}
 use Rattle.meaning.specs.Letters.{letterOf, crossed, crossedLetter, crossedChoice, modeOf, tied, reported}
+use Rattle.meaning.specs.Margins.{distance, marginOf}
 use Rattle.sums.specs.Sums.{sumsOf, arrayOf, Small, pairAt}
 use Rattle.tally.specs.Tally.{unit}
 
@@ -111,6 +112,12 @@ module _ (c : List (List ℕ)) (w : Sums) where
       chosen false t = refl
       chosen true false = refl
       chosen true true = less (crossed w true) (crossed w false)
+
+  -- and its margin
+  pub margin-chosen : (b : Bool) → c ≡ arrayOf (modeOf b .choice w) → (t : Side) (a : ℕ)
+      → a ≡ distance (sumsOf c t false) (sumsOf c t true) → a ≡ marginOf (modeOf b) w t
+  unfolding marginOf
+  margin-chosen b is t a h = h ∙ ap₂ distance (array-sums c (modeOf b .choice w) is t false) (array-sums c (modeOf b .choice w) is t true)
 
 -- sums that are read off a tally are small
 pub read-small : (a b c d : ℕ) → Small (sumsOf ((a % unit ∷ b % unit ∷ []) ∷ (c % unit ∷ d % unit ∷ []) ∷ []))

@@ -1,4 +1,4 @@
-// What is read off a tally: each column's four sums, the letters that are reported, and the flips.
+// What is read off a tally: each column's four sums, the letters that are reported, the flips, and the margins.
 ghost use mathlib.Core.Path.{_≡_};
 ghost use mathlib.Core.Bool.{cond, not};
 ghost use mathlib.Core.Bool.{true, false};
@@ -11,15 +11,23 @@ ghost use Rattle.meaning.specs.Block.{Matrix};
 ghost use Rattle.meaning.specs.Charge.{Letter, Sums, W};
 ghost use Rattle.meaning.specs.Letters.{modeOf};
 ghost use Rattle.meaning.specs.Answer.{divisionOf};
+ghost use Rattle.meaning.specs.Margins.{distance};
 ghost use Rattle.sums.specs.Sums.{sumsOf, arrayOf, Small, pairAt};
 ghost use Rattle.tally.specs.Tally.{Tallied};
 ghost use Rattle.letters.specs.Lettered.{Lettered};
 
-// The letters that are reported of the two sides at a column, and how many entries differ from their side's letter.
+// How far apart the two sums are that each side's letter is chosen from.
+pub struct Margins {
+    pub first: u32,
+    pub second: u32,
+}
+
+// The letters that are reported of the two sides at a column, how many entries differ from their side's letter, and the margins.
 pub struct Letters {
     pub first: u8,
     pub second: u8,
     pub flips: u32,
+    pub margins: Margins,
 }
 
 // The four sums of column j: a side's W0 is the weight of its entries with letter 1, its W1 of those with letter 0.
@@ -75,6 +83,24 @@ pub fn reported(w0: u32, w1: u32) -> u8
     if w0 == w1 { 2 } else { letter(w0, w1) }
 }
 
+// The margin of a side: the distance between its two sums.
+fn margin(w0: u32, w1: u32) -> u32
+    ensures { λ r. ⌜ r ≡ distance w0 w1 ⌝ }
+{
+    if w0 < w1 { w1 - w0 } else { w0 - w1 }
+}
+
+// The margins of both sides, by what their letters are chosen from.
+fn margins_of(c: [[u32; 2]; 2]) -> Margins
+    ensures { λ r. ⌜ (r .first ≡ distance (sumsOf c false false) (sumsOf c false true))
+        × (r .second ≡ distance (sumsOf c true false) (sumsOf c true true)) ⌝ }
+{
+    Margins {
+        first: margin(c[0][0], c[0][1]),
+        second: margin(c[1][0], c[1][1]),
+    }
+}
+
 // The entries of a side that differ from its letter: those of the other letter, 0 first.
 fn against(n: [u32; 2], letter: u8) -> u32
     ensures { λ r. ⌜ ((l : Letter) → letter ≡ bit l → r ≡ pairAt n l) ⌝ }
@@ -82,7 +108,7 @@ fn against(n: [u32; 2], letter: u8) -> u32
     if letter == 0 { n[0] } else { n[1] }
 }
 
-// The letters that are reported of column j, and the flips against its letters.
+// The letters that are reported of column j, the flips against its letters, and the margins.
 pub fn letters_at(tally: &[u32], j: usize, heterozygous: bool) -> Letters
     requires { ⌜ 4 * j + 4 ≤ length (now tally) ⌝ }
     ensures { λ r. ⌜ ((M : Matrix) (sides : List ℕ) → Tallied M sides (now (tally .entry)) → j < M .columns
@@ -100,5 +126,6 @@ pub fn letters_at(tally: &[u32], j: usize, heterozygous: bool) -> Letters
         first: f,
         second: g,
         flips: x + y,
+        margins: margins_of(c),
     }
 }

@@ -1,16 +1,14 @@
--- The answer block: sides, then letters column by column, then the head.
+-- The answer block: sides, then letters, then the head.
 use Prim.Native.Nat.{ℕ, suc, _+_, _-_, _*_, _≤_, _<_}
 use mathlib.Core.Path.{_≡_, sym, ap, ap₂, _∙_}
 use mathlib.Core.Bool.{true, false}
-use mathlib.Core.List.{List, [], _∷_, _++_}
-use native.Mathlib.Nat.{add-zero, zero-add}
-use native.Mathlib.Numerals.{add-one}
+use mathlib.Core.List.{List, _++_}
 use native.Mathlib.Omega.{arith}
-use lib.ListN.{length, take, drop, set, length-drop, take-append-drop}
+use lib.ListN.{length, take, drop, length-drop}
 use lib.Seq.{length-take-le, drop-at, take-at, drop-drop}
-use Rattle.meaning.specs.Numbers.{bit, run}
+use Rattle.meaning.specs.Numbers.{bit}
 use Rattle.meaning.specs.Block.{Matrix}
-use Rattle.meaning.specs.Active.{count, at}
+use Rattle.meaning.specs.Active.{count}
 use Rattle.meaning.specs.Closing.{activeReads}
 use Rattle.meaning.specs.Division.{Side, Division}
 use Rattle.meaning.specs.Charge.{W, leastCost, best}
@@ -18,50 +16,17 @@ use Rattle.meaning.specs.Letters.{Mode, chargeIn, reported, haplotypes, flips}
 use Rattle.meaning.specs.Answer.{answerBytes, sidesOf, divisionOf, lettersOf, answer}
 use Rattle.meaning.specs.Rule.{columnOf, leastEntry}
 use Rattle.meaning.specs.Call.{over, laid}
-use Rattle.meaning.proofs.Lists.{length-run, run-more}
+use Rattle.meaning.proofs.Lists.{length-run}
 use Rattle.meaning.proofs.Sums.{sums-local, sums-even}
 use Rattle.meaning.proofs.Modes.{Fair}
 use Rattle.meaning.proofs.SidesRead.{sides-division}
 use Rattle.meaning.proofs.Closing.{Placed}
 use Rattle.meaning.proofs.Rule.{rule-cost, rule-back}
-use Rattle.meaning.proofs.Rooms.{length-laid, set-laid-end, set-laid-before}
+use Rattle.meaning.proofs.Rooms.{length-laid}
 use Rattle.sides.specs.Ways.{tableLeast, tableDivision}
 use Rattle.written.specs.Output.{divisionIn, flipsOf, withLetters, RightColumns}
 use Rattle.answer.specs.Head.{headBytes}
 use Rattle.answer.proofs.Laws.{answer-laid}
-
--- the letters of the first j columns, in both haplotypes
-abbrev pub lettersTo : ℕ → ℕ → (ℕ → ℕ) → (ℕ → ℕ) → ℕ → List ℕ → List ℕ
-lettersTo n m f g j out = laid (17 + n + m) (run 0 j g) (laid (17 + n) (run 0 j f) out)
-
-module _ (n m : ℕ) (f g : ℕ → ℕ) (out : List ℕ) (fits : 17 + n + 2 * m ≤ length out) where
-  pub letters-none : out ≡ lettersTo n m f g 0 out
-  unfolding run
-  letters-none = sym (nothing (17 + n + m) (laid (17 + n) [] out) ∙ nothing (17 + n) out)
-    where
-      nothing : (at : ℕ) (x : List ℕ) → laid at [] x ≡ x
-      nothing at x = ap (λ (k : ℕ). take at x ++ drop k x) (add-zero at) ∙ take-append-drop at x
-
-  pub letters-length : (j : ℕ) → j ≤ m → length (lettersTo n m f g j out) ≡ length out
-  letters-length j l =
-      let a : length (laid (17 + n) (run 0 j f) out) ≡ length out = length-laid (17 + n) (run 0 j f) out (omega (arith, length-run 0 j f)) in
-      length-laid (17 + n + m) (run 0 j g) (laid (17 + n) (run 0 j f) out) (omega (arith, length-run 0 j g)) ∙ a
-
-  pub letters-more : (j : ℕ) → j < m → set (set (lettersTo n m f g j out) (17 + n + j) (f j)) (17 + n + m + j) (g j) ≡ lettersTo n m f g (j + 1) out
-  letters-more j l =
-      let a : length (run 0 j f) ≡ j = length-run 0 j f in
-      let b : length (run 0 j g) ≡ j = length-run 0 j g in
-      let c : length (laid (17 + n) (run 0 j f) out) ≡ length out = length-laid (17 + n) (run 0 j f) out (omega arith) in
-      let more : (h : ℕ → ℕ) → run 0 j h ++ (h j ∷ []) ≡ run 0 (j + 1) h = λ h. ap (λ (k : ℕ). run 0 j h ++ (h k ∷ [])) (sym (zero-add j)) ∙ sym (run-more 0 j h) ∙ ap (λ (k : ℕ). run 0 k h) (sym (add-one j)) in
-      let first : set (lettersTo n m f g j out) (17 + n + j) (f j) ≡ laid (17 + n + m) (run 0 j g) (laid (17 + n) (run 0 (j + 1) f) out) =
-      set-laid-before (17 + n + m) (run 0 j g) (laid (17 + n) (run 0 j f) out) (17 + n + j) (f j) (omega arith) (omega arith)
-      ∙ ap (laid (17 + n + m) (run 0 j g))
-      (ap (λ (k : ℕ). set (laid (17 + n) (run 0 j f) out) (17 + n + k) (f j)) (sym a) ∙ set-laid-end (17 + n) (run 0 j f) out (f j) (omega arith) ∙ ap (λ (x : List ℕ). laid (17 + n) x out) (more f)) in
-      let d : length (laid (17 + n) (run 0 (j + 1) f) out) ≡ length out = length-laid (17 + n) (run 0 (j + 1) f) out (omega (arith, length-run 0 (j + 1) f)) in
-      ap (λ (x : List ℕ). set x (17 + n + m + j) (g j)) first
-      ∙ ap (λ (k : ℕ). set (laid (17 + n + m) (run 0 j g) (laid (17 + n) (run 0 (j + 1) f) out)) (17 + n + m + k) (g j)) (sym b)
-      ∙ set-laid-end (17 + n + m) (run 0 j g) (laid (17 + n) (run 0 (j + 1) f) out) (g j) (omega arith)
-      ∙ ap (λ (x : List ℕ). laid (17 + n + m) x (laid (17 + n) (run 0 (j + 1) f) out)) (more g)
 
 -- all parts together
 pub answered : (mode : Mode) (M : Matrix) (n m cost flipped : ℕ) (old : List ℕ) → n ≡ count M → m ≡ M .columns → 17 + n + 2 * m ≤ length old

@@ -18,7 +18,7 @@ use Rattle.letters.specs.declared.Letters.{Letters}
 use Rattle.tally.specs.Tally.{Tallied}
 use Rattle.letters.specs.Lettered.{Lettered}
 use Rattle.written.specs.Output.{divisionIn, flipsOf, withLetters}
-use Rattle.written.proofs.Answered.{lettersTo, letters-none, letters-length, letters-more}
+use Rattle.written.proofs.Pairs.{pairsTo, pairs-none, pairs-length, pairs-more}
 
 -- the sides as a part of the output
 module _ (n : ℕ) (out : List ℕ) where
@@ -46,7 +46,7 @@ flipsAt mode M d j = sumTo (count M) (λ q. bit (isFlip (haplotypes mode M d (d 
 pub record Written (mode : Mode) (M : Matrix) (n m : ℕ) (old out : List ℕ) (flipped j : ℕ) : Type 0 where
   pub inside : j ≤ m
   pub same-length : length out ≡ length old
-  pub letters : out ≡ lettersTo n m (letterAt mode M (divisionIn n old) false) (letterAt mode M (divisionIn n old) true) j old
+  pub letters : out ≡ pairsTo (17 + n) m (letterAt mode M (divisionIn n old) false) (letterAt mode M (divisionIn n old) true) j old
   pub flips-are : flipped ≡ sumTo j (flipsAt mode M (divisionIn n old))
   pub flips-few : flipped ≤ 1024 * j
 
@@ -60,7 +60,7 @@ module _ (mode : Mode) (M : Matrix) (n m : ℕ) (old : List ℕ) (fits : 17 + n 
       record {
         inside = zero-le;
         same-length = refl;
-        letters = letters-none n m (letterAt mode M d false) (letterAt mode M d true) old fits;
+        letters = pairs-none (17 + n) m (letterAt mode M d false) (letterAt mode M d true) old fits;
         flips-are = refl;
         flips-few = zero-le;
       }
@@ -69,13 +69,13 @@ module _ (mode : Mode) (M : Matrix) (n m : ℕ) (old : List ℕ) (fits : 17 + n 
     pub written-more : j < m → (x : Letters) → Lettered mode M d j x
         → Written mode M n m old (set (set out (17 + n + j) (x .first)) (17 + n + m + j) (x .second)) (flipped + x .flips) (j + 1)
     written-more l x z =
-        let new : set (set out (17 + n + j) (x .first)) (17 + n + m + j) (x .second) ≡ lettersTo n m (letterAt mode M d false) (letterAt mode M d true) (j + 1) old =
+        let new : set (set out (17 + n + j) (x .first)) (17 + n + m + j) (x .second) ≡ pairsTo (17 + n) m (letterAt mode M d false) (letterAt mode M d true) (j + 1) old =
         ap (λ (o : List ℕ). set (set o (17 + n + j) (x .first)) (17 + n + m + j) (x .second)) (w .letters)
-        ∙ ap₂ (λ (a c : ℕ). set (set (lettersTo n m (letterAt mode M d false) (letterAt mode M d true) j old) (17 + n + j) a) (17 + n + m + j) c) (z .first-is) (z .second-is)
-        ∙ letters-more n m (letterAt mode M d false) (letterAt mode M d true) old fits j l in
+        ∙ ap₂ (λ (a c : ℕ). set (set (pairsTo (17 + n) m (letterAt mode M d false) (letterAt mode M d true) j old) (17 + n + j) a) (17 + n + m + j) c) (z .first-is) (z .second-is)
+        ∙ pairs-more (17 + n) m (letterAt mode M d false) (letterAt mode M d true) old fits j l in
         record {
           inside = omega arith;
-          same-length = ap length new ∙ letters-length n m (letterAt mode M d false) (letterAt mode M d true) old fits (j + 1) (omega arith);
+          same-length = ap length new ∙ pairs-length (17 + n) m (letterAt mode M d false) (letterAt mode M d true) old fits (j + 1) (omega arith);
           letters = new;
           flips-are = ap₂ (λ (a c : ℕ). a + c) (w .flips-are) (z .flips-are) ∙ sym (leaf-more j (flipsAt mode M d));
           flips-few = omega (arith, w .flips-few, z .flips-few);
@@ -88,5 +88,5 @@ module _ (mode : Mode) (M : Matrix) (n m : ℕ) (old : List ℕ) (fits : 17 + n 
     written-all e l =
         let k : j ≡ M .columns = omega (arith, w .inside) in (
           w .flips-are ∙ ap (λ (i : ℕ). sumTo i (flipsAt mode M d)) k,
-          w .letters ∙ ap (λ (i : ℕ). lettersTo n m (letterAt mode M d false) (letterAt mode M d true) i old) k,
+          w .letters ∙ ap (λ (i : ℕ). pairsTo (17 + n) m (letterAt mode M d false) (letterAt mode M d true) i old) k,
         )

@@ -7,7 +7,7 @@ use mathlib.Core.List.{List}
 use mathlib.Core.Path.{ap}
 use Rattle.meaning.specs.Letters.{modeOf}
 use Rattle.sums.specs.Sums.{sumsOf}
-use Rattle.letters.proofs.Sides.{choices-of, reported-chosen, against-few}
+use Rattle.letters.proofs.Sides.{choices-of, reported-chosen, margin-chosen, against-few}
 use Rattle.letters.proofs.Parts.{lettered}
 use Rattle.letters.proofs.letters_at.Statement.{statement}
 use Rattle.letters.proofs.letters_at.Tie as tie
@@ -110,9 +110,13 @@ add-t18 c =
     let y = against-few _ _ _ _ (mode .letter w true) (ap (λ (l : List ℕ). getD l 1 0) both) (c .against2 .ensures) (has _ .fits) (has _ .fits) in
     omega (arith, x, y)
 
+margins-of-requires : tie.Need-margins-of-requires
+margins-of-requires c κs = search needs
+
 returns : tie.Need-returns
 returns c M sides of inside =
-    let shown2 = c .before .before .before .before .before .before in
+    let counted = c .before in
+    let shown2 = counted .before .before .before .before .before .before in
     let shown = shown2 .before .before .before in
     let chosen = shown .before .before .before in
     let b = chosen .before .before .before .before .args .heterozygous in
@@ -123,8 +127,11 @@ returns c M sides of inside =
     (reported-chosen _ _ b total true _ (shown2 .reported2 .ensures))
     (ap (λ (l : List ℕ). getD l 0 0) both)
     (ap (λ (l : List ℕ). getD l 1 0) both)
-    (c .before .before .before .against .ensures)
-    (c .against2 .ensures)
+    (counted .before .before .before .against .ensures)
+    (counted .against2 .ensures)
+    _
+    (margin-chosen _ _ b total false _ (c .margins-of .ensures .0))
+    (margin-chosen _ _ b total true _ (c .margins-of .ensures .1))
 
 pub letters-at-spec : {M : Type 1} → statement M
 letters-at-spec =
@@ -160,4 +167,5 @@ letters-at-spec =
     array-read-against-2
     against-requires-2
     add-t18
+    margins-of-requires
     returns)

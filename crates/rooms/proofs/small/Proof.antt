@@ -1,7 +1,5 @@
 use borrow.Author.Needs.{needs}
-use native.Mathlib.Omega.{arith}
-use mathlib.Core.Path.{refl}
-use Rattle.rooms.proofs.Laws.{few-reads-room}
+use Rattle.rooms.proofs.Laws.{small-rooms}
 use Rattle.rooms.proofs.small.Statement.{statement}
 use Rattle.rooms.proofs.small.Tie as tie
 
@@ -17,17 +15,7 @@ slice-aggregate-solve-3 c = search needs
 solve-requires : tie.Need-solve-requires
 solve-requires c κs =
     let s = c .before .before .before .before .before .before .before .before in
-    let m = s .pre .1 in
-    let n = s .pre .2 in (
-      s .pre .0,
-      record {
-        places-room = omega (arith, m, n);
-        lists-room = omega (arith, m, n);
-        lists-empty = refl;
-        taken-room = few-reads-room (s .args .shape .n) n;
-        tally-room = omega (arith, m, n);
-      },
-    )
+    (s .pre .0, small-rooms (s .args .shape) (s .pre .1) (s .pre .2))
 
 same-length : tie.Need-same-length
 same-length c = search needs

@@ -1,0 +1,43 @@
+use borrow.Author.Needs.{needs}
+use Rattle.rooms.proofs.Laws.{small-rooms}
+use Rattle.rooms.proofs.small_margined.Statement.{statement}
+use Rattle.rooms.proofs.small_margined.Tie as tie
+
+slice-aggregate-solve : tie.Need-slice-aggregate-solve
+slice-aggregate-solve c = search needs
+
+slice-aggregate-solve-2 : tie.Need-slice-aggregate-solve-2
+slice-aggregate-solve-2 c = search needs
+
+slice-aggregate-solve-3 : tie.Need-slice-aggregate-solve-3
+slice-aggregate-solve-3 c = search needs
+
+solve-requires : tie.Need-solve-requires
+solve-requires c κs =
+    let s = c .before .before .before .before .before .before .before .before .before .before in
+    (s .pre .0, small-rooms (s .args .shape) (s .pre .1) (s .pre .2))
+
+same-length : tie.Need-same-length
+same-length c = search needs
+
+same-length-2 : tie.Need-same-length-2
+same-length-2 c = search needs
+
+same-length-3 : tie.Need-same-length-3
+same-length-3 c = search needs
+
+returns : tie.Need-returns
+returns c = search needs
+
+pub small-margined-spec : {M : Type 1} → statement M
+small-margined-spec =
+    tie.close
+    (tie.spec
+    slice-aggregate-solve
+    slice-aggregate-solve-2
+    slice-aggregate-solve-3
+    solve-requires
+    same-length
+    same-length-2
+    same-length-3
+    returns)

@@ -1,13 +1,13 @@
 -- Pieces put into a text, one behind the other. Assumes nothing.
 use Prim.Native.Nat.{ℕ, _+_, _≤_, _<_}
 use mathlib.Core.Path.{_≡_, refl, sym, ap, subst, _∙_}
-use mathlib.Core.List.{List, [], _∷_, _++_, append-assoc, map, map-append}
+use mathlib.Core.List.{List, [], _∷_, _++_, append-nil, append-assoc, map, map-append}
 use native.Mathlib.Nat.{add-zero, zero-add}
 use native.Mathlib.Numerals.{add-one}
 use native.Mathlib.Omega.{arith}
 use lib.ListN.{length, take, drop, set, getD, length-append, length-take, length-drop, take-append-drop}
 use lib.Seq.{set-split, take-at, drop-at, drop-drop, length-take-le, take-suc}
-use Rattle.lines.specs.Line.{mark}
+use Rattle.lines.specs.Line.{decimal, mark, runText}
 use Rattle.lines.specs.Put.{Put}
 
 module _ {t p u : List ℕ} {at e : ℕ} (h : Put t at p u e) where
@@ -52,17 +52,18 @@ joined {t} {p} {u} {q} {v} {at} {e} {f} h k =
           ∙ rw (h .holds, h .ends, take-behind (take at t) p r at l, drop-behind (take at t) p r at l, s, drop-drop) (simp append-assoc);
     }
 
--- a piece put at the front
-pub front-ends : {t p u : List ℕ} {e : ℕ} → Put t 0 p u e → e ≡ length p
-front-ends h = omega (arith, h .ends)
+-- a piece put at the front, by any name of it: how long it is, that it fits, and what the text is
+pub front : {t p u : List ℕ} {e : ℕ} (q : List ℕ) → q ≡ p → Put t 0 p u e → (e ≡ length q) × ((e ≤ length t) × (u ≡ q ++ drop (length q) t))
+front {t} q s h =
+    let k = put-as h q (sym s) in
+    (omega (arith, k .ends), (omega (arith, k .ends, k .fits), k .holds ∙ ap (λ (n : ℕ). q ++ drop n t) (zero-add (length q))))
 
-pub front-fits : {t p u : List ℕ} {e : ℕ} → Put t 0 p u e → e ≤ length t
-front-fits h = omega (arith, h .ends, h .fits)
+run-append : (s r : List ℕ) → runText (s ++ r) ≡ runText s ++ runText r
+unfolding runText
+run-append [] r = refl
+run-append (x ∷ s) r = rw (run-append s r, append-assoc)
 
-pub front-holds : {t p u : List ℕ} {e : ℕ} → Put t 0 p u e → u ≡ p ++ drop (length p) t
-front-holds {t} {p} h = h .holds ∙ ap (λ (n : ℕ). p ++ drop n t) (zero-add (length p))
-
--- one more byte of a list, and one more mark
+-- one more byte of a list, one more mark, and one more number of a run
 module _ (s : List ℕ) (i : ℕ) (l : i < length s) where
   bytes-more : take (i + 1) s ≡ take i s ++ (getD s i 0 ∷ [])
   bytes-more = rw (add-one, take-suc s i 0)
@@ -70,9 +71,17 @@ module _ (s : List ℕ) (i : ℕ) (l : i < length s) where
   marks-more : map mark (take (i + 1) s) ≡ map mark (take i s) ++ (mark (getD s i 0) ∷ [])
   marks-more = rw (bytes-more, map-append)
 
+  run-more : runText (take (i + 1) s) ≡ runText (take i s) ++ (32 ∷ decimal (getD s i 0))
+  unfolding runText
+  run-more = rw (bytes-more, run-append, append-nil)
+
   module _ {t u v : List ℕ} {at e f : ℕ} where
     pub byte-put : Put t at (take i s) u e → Put u e (getD s i 0 ∷ []) v f → Put t at (take (i + 1) s) v f
     byte-put h k = put-as (joined h k) (take (i + 1) s) (sym bytes-more)
 
     pub mark-put : Put t at (map mark (take i s)) u e → Put u e (mark (getD s i 0) ∷ []) v f → Put t at (map mark (take (i + 1) s)) v f
     mark-put h k = put-as (joined h k) (map mark (take (i + 1) s)) (sym marks-more)
+
+    pub number-put : {w : List ℕ} {g : ℕ} → Put t at (runText (take i s)) u e → Put u e (32 ∷ []) v f → Put v f (decimal (getD s i 0)) w g
+        → Put t at (runText (take (i + 1) s)) w g
+    number-put h k n = put-as (joined h (joined k n)) (runText (take (i + 1) s)) (sym run-more)

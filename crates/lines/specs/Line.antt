@@ -38,6 +38,14 @@ noneWord = 110 ∷ 111 ∷ 110 ∷ 101 ∷ []
 abbrev pub atWord : List ℕ
 atWord = 32 ∷ 97 ∷ 116 ∷ 32 ∷ []
 
+-- `margin1`
+abbrev pub margin1Word : List ℕ
+margin1Word = 109 ∷ 97 ∷ 114 ∷ 103 ∷ 105 ∷ 110 ∷ 49 ∷ []
+
+-- `margin2`
+abbrev pub margin2Word : List ℕ
+margin2Word = 109 ∷ 97 ∷ 114 ∷ 103 ∷ 105 ∷ 110 ∷ 50 ∷ []
+
 -- a word, a number or a run of characters, and a newline
 abbrev pub line : List ℕ → List ℕ → List ℕ
 line word rest = word ++ (rest ++ (10 ∷ []))
@@ -49,3 +57,8 @@ sidesText sides = cond (eqb (length sides) 0) noneWord (map mark sides)
 -- a word, the number, then the second number
 abbrev pub numbersLine : List ℕ → ℕ → ℕ → List ℕ
 numbersLine word number second = line word (decimal number ++ (atWord ++ decimal second))
+
+-- a run of numbers, a blank before each
+unfoldable pub runText : List ℕ → List ℕ
+runText [] = []
+runText (x ∷ rest) = 32 ∷ (decimal x ++ runText rest)

@@ -1,9 +1,9 @@
 // Pieces of a printed text: bytes, numbers in decimal, and lines of them.
 ghost use mathlib.Core.Path.{_≡_};
 ghost use mathlib.Core.List.{[], _∷_, _++_, map};
-ghost use Prim.Native.Nat.{_+_, _≤_, _<_};
+ghost use Prim.Native.Nat.{_+_, _*_, _≤_, _<_};
 ghost use lib.ListN.{length};
-ghost use Rattle.lines.specs.Line.{decimal, mark, line, sidesWord, hap1Word, hap2Word, sidesText, numbersLine};
+ghost use Rattle.lines.specs.Line.{decimal, mark, line, sidesWord, hap1Word, hap2Word, sidesText, numbersLine, runText};
 ghost use Rattle.lines.specs.Put.{Put};
 
 // The character of a digit.
@@ -111,6 +111,7 @@ pub fn put_letters(text: &mut [u8], at: usize, first: &[u8], second: &[u8]) -> u
     ensures { λ r. ⌜ Put (now (text .entry)) at
         (line hap1Word (map mark (now (first .entry))) ++ line hap2Word (map mark (now (second .entry))))
         (now (text .exit)) r ⌝ }
+    ensures { λ r. ⌜ r ≡ at + length (now (first .entry)) + length (now (second .entry)) + 12 ⌝ }
 {
     let end = put_marks_line(text, at, b"hap1 ", first);
     put_marks_line(text, end, b"hap2 ", second)
@@ -125,4 +126,30 @@ pub fn put_numbers(text: &mut [u8], name: &[u8], number: u32, second: u32) -> us
     let start = put_bytes(text, 0, name);
     let end = put_decimal(text, start, number);
     put_number_line(text, end, b" at ", second)
+}
+
+// Numbers in decimal, a blank before each.
+fn put_run(text: &mut [u8], at: usize, numbers: &[u32]) -> usize
+    requires { ⌜ at + 11 * length (now numbers) ≤ length (now text) ⌝ }
+    ensures { λ r. ⌜ Put (now (text .entry)) at (runText (now (numbers .entry))) (now (text .exit)) r ⌝ }
+    ensures { λ r. ⌜ r ≤ at + 11 * length (now (numbers .entry)) ⌝ }
+{
+    let mut end = at;
+    let mut i = 0;
+    while i < numbers.len() {
+        end = put_byte(text, end, b' ');
+        end = put_decimal(text, end, numbers[i]);
+        i += 1;
+    }
+    end
+}
+
+pub fn put_run_line(text: &mut [u8], at: usize, name: &[u8], numbers: &[u32]) -> usize
+    requires { ⌜ at + length (now name) + 11 * length (now numbers) + 1 ≤ length (now text) ⌝ }
+    ensures { λ r. ⌜ Put (now (text .entry)) at (line (now (name .entry)) (runText (now (numbers .entry)))) (now (text .exit)) r ⌝ }
+    ensures { λ r. ⌜ r ≤ at + length (now (name .entry)) + 11 * length (now (numbers .entry)) + 1 ⌝ }
+{
+    let start = put_bytes(text, at, name);
+    let end = put_run(text, start, numbers);
+    put_byte(text, end, b'\n')
 }

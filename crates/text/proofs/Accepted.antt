@@ -6,12 +6,13 @@ use mathlib.Core.List.{List, _++_, map}
 use native.Mathlib.Nat.{le-trans, le-of-eq}
 use native.Mathlib.Omega.{arith}
 use lib.ListN.{length, drop}
+use Rattle.meaning.specs.Numbers.{word}
 use Rattle.meaning.specs.Block.{Matrix, matrixOf}
 use Rattle.meaning.specs.Division.{Division}
 use Rattle.meaning.specs.Charge.{leastCost, best}
 use Rattle.meaning.specs.Letters.{Mode, chargeIn, haplotypes, flips}
 use Rattle.meaning.specs.Answer.{answerBytes, sidesOf, lettersOf, answer}
-use Rattle.meaning.specs.Call.{Result, accepts, callWith}
+use Rattle.meaning.specs.Call.{Result, over, accepts, callWith}
 use Rattle.meaning.proofs.Modes.{Fair}
 use Rattle.meaning.proofs.Formed.{Accepted, matrix-reads, matrix-columns}
 use Rattle.meaning.proofs.Bounds.{Bytes, cost-fits}
@@ -31,7 +32,14 @@ fiveLines cost flipped sides hap1 hap2 =
     ++ (line hap1Word (map mark hap1)
     ++ line hap2Word (map mark hap2))))
 
-module _ (cost flipped : ℕ) (sides hap1 hap2 rest : List ℕ) (few-reads : length sides ≤ 1024) (few-columns : length hap1 ≤ 1024) (same-columns : length hap2 ≡ length hap1) where
+-- those of the reported division of a matrix
+abbrev pub linesIn : Mode → Matrix → List ℕ
+linesIn mode M =
+    let d = best (chargeIn mode) M in
+    fiveLines (leastCost (chargeIn mode) M) (flips M d (haplotypes mode M d)) (sidesOf M d) (lettersOf mode M d false) (lettersOf mode M d true)
+
+module _ (cost flipped : ℕ) (sides hap1 hap2 rest : List ℕ)
+    (few-reads : length sides ≤ 1024) (few-columns : length hap1 ≤ 1024) (same-columns : length hap2 ≡ length hap1) where
   abbrev block : List ℕ
   block = answerBytes cost flipped sides hap1 hap2 ++ rest
 
@@ -45,9 +53,9 @@ module _ (cost flipped : ℕ) (sides hap1 hap2 rest : List ℕ) (few-reads : len
         sized = omega (arith, block-length cost flipped sides hap1 hap2 rest);
       }
 
-  pub accepted-text : (second : ℕ) → cost < 2 ^ 32 → flipped < 2 ^ 32 → textOf 0 second block ≡ fiveLines cost flipped sides hap1 hap2
-  unfolding textOf answerText
-  accepted-text second hc hf =
+  pub block-lines : cost < 2 ^ 32 → flipped < 2 ^ 32 → answerText block ≡ fiveLines cost flipped sides hap1 hap2
+  unfolding answerText
+  block-lines hc hf =
       rw (
         cost-is cost flipped sides hap1 hap2 rest hc,
         flips-is cost flipped sides hap1 hap2 rest hf,
@@ -76,6 +84,13 @@ module _ (mode : Mode) (newest : ℕ) (b work out : List ℕ) (a : Accepted newe
   same-letters : length (lettersOf mode M d true) ≡ length (lettersOf mode M d false)
   same-letters = length-letters M d mode true ∙ sym (length-letters M d mode false)
 
+  pub accepted-columns : word (over (answer mode (matrixOf b)) out) 15 ≡ matrixOf b .columns
+  unfolding answer
+  accepted-columns =
+      columns-is (leastCost (chargeIn mode) M) (flips M d (haplotypes mode M d)) (sidesOf M d) (lettersOf mode M d false) (lettersOf mode M d true) rest
+      few-letters
+      ∙ length-letters M d mode false
+
   pub accepted-whole : Whole (callWith mode newest b work out .out)
   unfolding accepts answer
   accepted-whole =
@@ -83,12 +98,17 @@ module _ (mode : Mode) (newest : ℕ) (b work out : List ℕ) (a : Accepted newe
       (whole (leastCost (chargeIn mode) M) (flips M d (haplotypes mode M d)) (sidesOf M d) (lettersOf mode M d false) (lettersOf mode M d true) rest
       few-sides few-letters same-letters)
 
-  -- the five lines of its answer are printed: cost and flips fit their fields
-  pub accepted-lines : Fair mode → Bytes b → let r = callWith mode newest b work out in textOf (r .number) (r .second) (r .out)
-      ≡ fiveLines (leastCost (chargeIn mode) M) (flips M d (haplotypes mode M d)) (sidesOf M d) (lettersOf mode M d false) (lettersOf mode M d true)
-  unfolding accepts answer
-  accepted-lines fair bytes =
+  -- the five lines of its answer: cost and flips fit their fields
+  pub accepted-answer : Fair mode → Bytes b → answerText (over (answer mode (matrixOf b)) out) ≡ linesIn mode (matrixOf b)
+  unfolding answer
+  accepted-answer fair bytes =
       let f : flips M d (haplotypes mode M d) ≤ 12288 = flips-limit newest b (length work) (length out) a d (haplotypes mode M d) in
-      ap (λ (r : Result). textOf (r .number) (r .second) (r .out)) (demand1-accepted mode newest b work out a)
-      ∙ accepted-text (leastCost (chargeIn mode) M) (flips M d (haplotypes mode M d)) (sidesOf M d) (lettersOf mode M d false) (lettersOf mode M d true) rest
-      few-sides few-letters same-letters (leastCost (chargeIn mode) M) (cost-fits mode fair newest b (length work) (length out) bytes a) (omega arith)
+      block-lines (leastCost (chargeIn mode) M) (flips M d (haplotypes mode M d)) (sidesOf M d) (lettersOf mode M d false) (lettersOf mode M d true) rest
+      few-sides few-letters same-letters (cost-fits mode fair newest b (length work) (length out) bytes a) (omega arith)
+
+  -- they are printed
+  pub accepted-lines : Fair mode → Bytes b → let r = callWith mode newest b work out in textOf (r .number) (r .second) (r .out)
+      ≡ linesIn mode (matrixOf b)
+  unfolding accepts textOf
+  accepted-lines fair bytes =
+      ap (λ (r : Result). textOf (r .number) (r .second) (r .out)) (demand1-accepted mode newest b work out a) ∙ accepted-answer fair bytes

@@ -1,11 +1,11 @@
--- What `phase` prints in four cases and `judge` in three, by computation.
+-- What `phase` prints in four cases, with the margins in two, and `judge` in three, by computation.
 use Prim.Native.Nat.{ℕ}
 use mathlib.Core.Path.{_≡_, refl}
-use mathlib.Core.List.{List, [], _∷_}
+use mathlib.Core.List.{List, [], _∷_, _++_}
 use Rattle.meaning.specs.Numbers.{bigEndian}
-use Rattle.lines.specs.Line.{digits}
+use Rattle.lines.specs.Line.{digits, runText}
 use Rattle.words.specs.Words.{verdictWords}
-use Rattle.text.specs.Text.{answerText, refusalText, textOf}
+use Rattle.text.specs.Text.{answerText, refusalText, textOf, marginsText, marginTextOf}
 use Rattle.text.specs.Verdict.{judgedText}
 
 -- P1's answer block: cost 1, 1 flip, 4 sides, 2 columns
@@ -56,6 +56,20 @@ column-printed = refl
 pub input-printed : textOf 12 65536 [] ≡ 114 ∷ 101 ∷ 102 ∷ 117 ∷ 115 ∷ 101 ∷ 100 ∷ 32 ∷ 49 ∷ 50 ∷ 32 ∷ 97 ∷ 116 ∷ 32 ∷ 54 ∷ 53 ∷ 53 ∷ 51 ∷ 54 ∷ 10 ∷ []
 unfolding textOf refusalText digits
 input-printed = refl
+
+-- P1's margins, and one number more of the run: behind the five lines `margin1 9 3`, `margin2 5 0`
+pub p1-margins-printed : marginTextOf 0 1 answerP1 (9 ∷ 3 ∷ 5 ∷ 0 ∷ 7 ∷ [])
+    ≡ textP1
+    ++ (109 ∷ 97 ∷ 114 ∷ 103 ∷ 105 ∷ 110 ∷ 49 ∷ 32 ∷ 57 ∷ 32 ∷ 51 ∷ 10
+    ∷ 109 ∷ 97 ∷ 114 ∷ 103 ∷ 105 ∷ 110 ∷ 50 ∷ 32 ∷ 53 ∷ 32 ∷ 48 ∷ 10
+    ∷ [])
+unfolding marginTextOf marginsText answerText runText digits bigEndian
+p1-margins-printed = refl
+
+-- `refused 13 at 4`
+pub run-printed : marginTextOf 13 4 [] (9 ∷ 3 ∷ 5 ∷ []) ≡ 114 ∷ 101 ∷ 102 ∷ 117 ∷ 115 ∷ 101 ∷ 100 ∷ 32 ∷ 49 ∷ 51 ∷ 32 ∷ 97 ∷ 116 ∷ 32 ∷ 52 ∷ 10 ∷ []
+unfolding marginTextOf refusalText digits
+run-printed = refl
 
 -- `verdict 54 at 0`, `stated cost not the weight of disagreeing entries`
 pub cost-judged : judgedText 54 0

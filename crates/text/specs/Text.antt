@@ -1,11 +1,11 @@
--- What `phase` prints, byte by byte, of a call's two numbers and its answer block.
+-- What `phase` prints, byte by byte, of a call's two numbers and its answer block, and of the margins where they are asked for.
 use Prim.Native.Nat.{ℕ, _+_}
 use mathlib.Core.Bool.{cond}
 use mathlib.Core.List.{List, [], _∷_, _++_, map}
 use lib.ListN.{take, drop}
 use lib.Dec.{eqb}
 use Rattle.meaning.specs.Numbers.{word, long}
-use Rattle.lines.specs.Line.{decimal, mark, line, sidesWord, hap1Word, hap2Word, sidesText, numbersLine}
+use Rattle.lines.specs.Line.{decimal, mark, line, sidesWord, hap1Word, hap2Word, sidesText, margin1Word, margin2Word, numbersLine, runText}
 
 -- `cost `
 abbrev pub costWord : List ℕ
@@ -36,3 +36,14 @@ refusalText number second = numbersLine refusedWord number second
 
 unfoldable pub textOf : ℕ → ℕ → List ℕ → List ℕ
 textOf number second answer = cond (eqb number 0) (answerText answer) (refusalText number second)
+
+-- seven lines: those of the answer block, and the margins of its m columns, haplotype 1's first
+unfoldable pub marginsText : List ℕ → List ℕ → List ℕ
+marginsText answer margins =
+    let m = word answer 15 in
+    answerText answer
+    ++ (line margin1Word (runText (take m margins))
+    ++ line margin2Word (runText (take m (drop m margins))))
+
+unfoldable pub marginTextOf : ℕ → ℕ → List ℕ → List ℕ → List ℕ
+marginTextOf number second answer margins = cond (eqb number 0) (marginsText answer margins) (refusalText number second)

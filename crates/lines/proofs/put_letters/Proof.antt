@@ -20,7 +20,9 @@ same-length : tie.Need-same-length
 same-length c = search needs
 
 returns : tie.Need-returns
-returns c = joined (c .before .before .before .before .before .before .before .put-marks-line .ensures .0) (c .before .before .put-marks-line2 .ensures .0)
+returns c =
+    let f = c .before .before .before .before .before .before .before in
+    (joined (f .put-marks-line .ensures .0) (c .before .before .put-marks-line2 .ensures .0), search needs)
 
 pub put-letters-spec : {M : Type 1} → statement M
 put-letters-spec =

@@ -1,7 +1,8 @@
 -- `put_answer` meets its contract: five lines, joined. Assumes nothing.
 use borrow.Author.Needs.{needs}
+use native.Mathlib.Omega.{arith}
 use Rattle.text.specs.Text.{answerText}
-use Rattle.text.proofs.Lines.{answer-is}
+use Rattle.text.proofs.Lines.{answer-is, answer-ends}
 use Rattle.lines.proofs.Pieces.{put-as, joined}
 use Rattle.text.proofs.put_answer.Statement.{statement}
 use Rattle.text.proofs.put_answer.Tie as tie
@@ -83,13 +84,20 @@ same-length c = search needs
 
 returns : tie.Need-returns
 returns c =
+    let l = c .before .before .put-letters .ensures in
     let s = c .before .before .before .before .before .before .before .before in
     let f = s .before .before .before .before .before in
     let e = f .before .before .before .before .before .before in
     let w = e .before .before .before .before in
-    let h = joined (e .put-number-line .ensures .0) (joined (f .put-number-line2 .ensures .0) (joined (s .put-sides-line .ensures .0) (c .before .before .put-letters .ensures))) in
-    let b = w .before .before .before .before .args .answer .now in
-    put-as h (answerText b) (answer-is b _ _ _ _ (w .before .word-at .ensures .0) (w .word-at2 .ensures .0) (e .before .long-at .ensures .0) (f .before .long-at2 .ensures .0))
+    let h = joined (e .put-number-line .ensures .0) (joined (f .put-number-line2 .ensures .0) (joined (s .put-sides-line .ensures .0) (l .0))) in
+    let d = w .before .before .before .before in
+    let b = d .args .answer .now in
+    let n = w .before .word-at in
+    let m = w .word-at2 in (
+      put-as h (answerText b) (answer-is b _ _ _ _ (n .ensures .0) (m .ensures .0) (e .before .long-at .ensures .0) (f .before .long-at2 .ensures .0)),
+      answer-ends b (n .result) (m .result) (f .put-number-line2 .result) _ _
+          (d .pre .0) (n .ensures .0) (m .ensures .0) (omega arith) (s .put-sides-line .ensures .1) (l .1),
+    )
 
 pub put-answer-spec : {M : Type 1} → statement M
 put-answer-spec =

@@ -2,7 +2,7 @@
 use borrow.Author.Needs.{needs}
 use borrow.Author.Tests.{eq-eqb, ne-eqb}
 use Rattle.text.specs.Text.{textOf}
-use Rattle.lines.proofs.Pieces.{front-ends, front-fits, front-holds}
+use Rattle.lines.proofs.Pieces.{front}
 use Rattle.text.proofs.write_text.Statement.{statement}
 use Rattle.text.proofs.write_text.Tie as tie
 
@@ -17,9 +17,9 @@ same-length c = search needs
 returns : tie.Need-returns
 unfolding textOf
 returns c =
-    let h = c .before .before .put-answer .ensures in
-    let e = eq-eqb (c .before .before .before .before .before .before .before .args .number) 0 (c .before .before .before .before .if1 .taken) in
-    (rw e (front-ends h), (front-fits h, rw e (front-holds h)))
+    let a = c .before .before .before .before .before .before .before .args in
+    front (textOf (a .number) (a .second) (a .answer .now))
+    (rw (eq-eqb (a .number) 0 (c .before .before .before .before .if1 .taken))) (c .before .before .put-answer .ensures .0)
 
 put-refusal-requires : tie.Need-put-refusal-requires
 put-refusal-requires c κs = search needs
@@ -30,9 +30,9 @@ same-length-2 c = search needs
 returns-2 : tie.Need-returns-2
 unfolding textOf
 returns-2 c =
-    let h = c .before .before .put-refusal .ensures in
-    let e = ne-eqb (c .before .before .before .before .before .before .before .args .number) 0 (c .before .before .before .before .if1 .left) in
-    (rw e (front-ends h), (front-fits h, rw e (front-holds h)))
+    let a = c .before .before .before .before .before .before .before .args in
+    front (textOf (a .number) (a .second) (a .answer .now))
+    (rw (ne-eqb (a .number) 0 (c .before .before .before .before .if1 .left))) (c .before .before .put-refusal .ensures)
 
 pub write-text-spec : {M : Type 1} → statement M
 write-text-spec =

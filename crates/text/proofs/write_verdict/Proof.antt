@@ -2,7 +2,7 @@
 use borrow.Author.Needs.{needs}
 use borrow.Author.Tests.{lt-ltb, le-ltb}
 use Rattle.text.specs.Verdict.{judgedText}
-use Rattle.lines.proofs.Pieces.{joined, front-ends, front-fits, front-holds}
+use Rattle.lines.proofs.Pieces.{joined, front}
 use Rattle.text.proofs.write_verdict.Statement.{statement}
 use Rattle.text.proofs.write_verdict.Tie as tie
 
@@ -15,9 +15,9 @@ same-length c = search needs
 returns : tie.Need-returns
 unfolding judgedText
 returns c =
-    let h = c .before .before .put-refusal .ensures in
-    let e = lt-ltb (c .before .before .before .before .before .before .args .number) 50 (c .before .before .before .before .if1 .taken) in
-    (rw e (front-ends h), (front-fits h, rw e (front-holds h)))
+    let a = c .before .before .before .before .before .before .args in
+    front (judgedText (a .number) (a .second))
+    (rw (lt-ltb (a .number) 50 (c .before .before .before .before .if1 .taken))) (c .before .before .put-refusal .ensures)
 
 slice-aggregate-put-numbers : tie.Need-slice-aggregate-put-numbers
 slice-aggregate-put-numbers c = search needs
@@ -34,9 +34,10 @@ same-length-2 c = search needs
 returns-2 : tie.Need-returns-2
 unfolding judgedText
 returns-2 c =
+    let a = c .before .before .before .before .before .before .before .before .before .before .before .args in
     let h = joined (c .before .before .before .before .before .before .put-numbers .ensures .0) (c .before .before .put-words .ensures) in
-    let e = le-ltb (c .before .before .before .before .before .before .before .before .before .before .before .args .number) 50 (c .before .before .before .before .before .before .before .before .before .if1 .left) in
-    (rw e (front-ends h), (front-fits h, rw e (front-holds h)))
+    front (judgedText (a .number) (a .second))
+    (rw (le-ltb (a .number) 50 (c .before .before .before .before .before .before .before .before .before .if1 .left))) h
 
 pub write-verdict-spec : {M : Type 1} → statement M
 write-verdict-spec =

@@ -8,8 +8,10 @@ use Rattle.meaning.specs.Block.{Matrix, latest}
 use Rattle.meaning.specs.Letters.{Mode}
 use Rattle.meaning.specs.Refusals.{Numbers, blockRefusal}
 use Rattle.meaning.specs.Call.{Result, refuses, callWith, callOn}
+use Rattle.meaning.specs.Margins.{refusesMargins, marginCallOn, marginCall}
 use Rattle.meaning.specs.Judge.{rejects, judgingOn, judging}
 use Rattle.meaning.proofs.Call.{call-on, call-block}
+use Rattle.meaning.proofs.MarginCall.{margin-call-on, margin-call-block}
 use Rattle.meaning.proofs.Judging.{judging-on, judging-block}
 use Rattle.layout.specs.declared.Shape.{Shape}
 use Rattle.layout.specs.Reads.{matrixIn}
@@ -31,6 +33,12 @@ unfolding refuses
 refused-call mode b work out n s e l =
     ap (λ (x : Numbers). refuses x work out) e ∙ sym (call-block mode latest b work out (refused-number (blockRefusal latest b) n s e l))
 
+pub refused-margins : (b work out margins : List ℕ) (n s : ℕ) → record { number = n; second = s } ≡ blockRefusal latest b → 0 < n
+    → record { number = n; second = s; work = work; out = out; margins = margins } ≡ marginCall b work out margins
+unfolding marginCall refusesMargins refuses
+refused-margins b work out margins n s e l =
+    ap (λ (x : Numbers). refusesMargins x work out margins) e ∙ sym (margin-call-block latest b work out margins (refused-number (blockRefusal latest b) n s e l))
+
 pub refused-judging : (b a work : List ℕ) (n s : ℕ) → record { number = n; second = s } ≡ blockRefusal latest b → 0 < n
     → record { number = n; second = s; work = work } ≡ judging b a work
 unfolding judging rejects
@@ -47,6 +55,13 @@ module _ (b : List ℕ) (s : Shape) (p : Passes b s) where
       ap (λ (r : List ℕ). callOn mode (matrixIn s r) work out) (part-is b)
       ∙ ap (λ (M : Matrix). callOn mode M work out) (p .matrix-is)
       ∙ sym (call-on mode latest b work out (p .formed))
+
+  pub passed-margins : (work out margins : List ℕ) → marginCallOn (matrixIn s lent) work out margins ≡ marginCall b work out margins
+  unfolding marginCall
+  passed-margins work out margins =
+      ap (λ (r : List ℕ). marginCallOn (matrixIn s r) work out margins) (part-is b)
+      ∙ ap (λ (M : Matrix). marginCallOn M work out margins) (p .matrix-is)
+      ∙ sym (margin-call-on latest b work out margins (p .formed))
 
   pub passed-judging : (a work : List ℕ) → judgingOn (matrixIn s lent) a work ≡ judging b a work
   unfolding judging

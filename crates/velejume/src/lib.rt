@@ -3,9 +3,11 @@ ghost use mathlib.Core.Path.{_≡_};
 ghost use Rattle.meaning.specs.Block.{latest};
 ghost use Rattle.meaning.specs.Letters.{modeOf};
 ghost use Rattle.meaning.specs.Call.{callWith, call, heterozygousCall};
+ghost use Rattle.meaning.specs.Margins.{marginCall};
 ghost use Rattle.meaning.specs.Judge.{judging};
 ghost use Rattle.meaning.specs.Convert.{converting};
 ghost use Rattle.convert.specs.Outcomes.{conversionNumber, conversionSecond};
+ghost use Rattle.margins.specs.Outcomes as with-margins;
 ghost use Rattle.solve.specs.Outcomes.{outcomeNumber, outcomeSecond};
 ghost use Rattle.verdict.specs.Judgements.{judgementNumber, judgementSecond};
 
@@ -122,6 +124,58 @@ fn both(number: u32, second: u32) -> Numbers
         number: number,
         second: second,
     }
+}
+
+// The two numbers of what the solver finds that gives margins too.
+fn told(o: margins::Outcome) -> Numbers
+    ensures { λ r. ⌜ (r .number ≡ with-margins.outcomeNumber o) × (r .second ≡ with-margins.outcomeSecond o) ⌝ }
+{
+    match o {
+        margins::Outcome::Crowded(j) => both(9, j),
+        margins::Outcome::Work(need) => both(10, need),
+        margins::Outcome::Output(need) => both(11, need),
+        margins::Outcome::Short(need) => both(13, need),
+        margins::Outcome::Cost(cost) => both(0, cost),
+    }
+}
+
+// Phases a fragment block and tells how sure each letter is: all that `phase` gives, and in the run the margins of haplotype 1's letters,
+// then of haplotype 2's; or a refusal that leaves all three as they were.
+pub fn phase_margins(block: &[u8], work: &mut [u32], out: &mut [u8], margins: &mut [u32]) -> Numbers
+    ensures { λ r. ⌜ r .number ≡ marginCall (now (block .entry)) (now (work .entry)) (now (out .entry)) (now (margins .entry)) .number ⌝ }
+    ensures { λ r. ⌜ r .second ≡ marginCall (now (block .entry)) (now (work .entry)) (now (out .entry)) (now (margins .entry)) .second ⌝ }
+    ensures { λ _. ⌜ now (work .exit) ≡ marginCall (now (block .entry)) (now (work .entry)) (now (out .entry)) (now (margins .entry)) .work ⌝ }
+    ensures { λ _. ⌜ now (out .exit) ≡ marginCall (now (block .entry)) (now (work .entry)) (now (out .entry)) (now (margins .entry)) .out ⌝ }
+    ensures { λ _. ⌜ now (margins .exit) ≡ marginCall (now (block .entry)) (now (work .entry)) (now (out .entry)) (now (margins .entry)) .margins ⌝ }
+{
+    let v = block::checked(block);
+    match v {
+        block::Verdict::Refused { number, second } => both(number, second),
+        block::Verdict::Passed(shape) => {
+            let o = rooms::margined(shape, &block[9..], work, out, margins);
+            told(o)
+        }
+    }
+}
+
+// The same for C: the number is returned, the second number goes to where `second` points.
+#[no_mangle]
+pub extern "C" fn velejume_phase_margins(
+    block: &[u8],
+    work: &mut [u32],
+    out: &mut [u8],
+    margins: &mut [u32],
+    second: &mut u32,
+) -> u32
+    ensures { λ r. ⌜ r ≡ marginCall (now (block .entry)) (now (work .entry)) (now (out .entry)) (now (margins .entry)) .number ⌝ }
+    ensures { λ _. ⌜ now (second .exit) ≡ marginCall (now (block .entry)) (now (work .entry)) (now (out .entry)) (now (margins .entry)) .second ⌝ }
+    ensures { λ _. ⌜ now (work .exit) ≡ marginCall (now (block .entry)) (now (work .entry)) (now (out .entry)) (now (margins .entry)) .work ⌝ }
+    ensures { λ _. ⌜ now (out .exit) ≡ marginCall (now (block .entry)) (now (work .entry)) (now (out .entry)) (now (margins .entry)) .out ⌝ }
+    ensures { λ _. ⌜ now (margins .exit) ≡ marginCall (now (block .entry)) (now (work .entry)) (now (out .entry)) (now (margins .entry)) .margins ⌝ }
+{
+    let m = phase_margins(block, work, out, margins);
+    *second = m.second;
+    m.number
 }
 
 // The two numbers of a judgement.

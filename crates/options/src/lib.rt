@@ -1,7 +1,7 @@
 // What an argument of `phase` asks for.
 ghost use mathlib.Core.Path.{_≡_};
 ghost use mathlib.Core.Bool.{true, false};
-ghost use Rattle.options.specs.Words.{allHetWord};
+ghost use Rattle.options.specs.Words.{allHetWord, marginsWord};
 
 // Whether two runs hold the same bytes.
 fn same(a: &[u8], b: &[u8]) -> bool
@@ -25,4 +25,11 @@ pub fn all_het(word: &[u8]) -> bool
     ensures { λ r. ⌜ (r ≡ true → now (word .entry) ≡ allHetWord) × (r ≡ false → now (word .entry) ≡ allHetWord → ⊥) ⌝ }
 {
     same(word, b"--all-het")
+}
+
+// Whether the argument is `--margins`.
+pub fn margins(word: &[u8]) -> bool
+    ensures { λ r. ⌜ (r ≡ true → now (word .entry) ≡ marginsWord) × (r ≡ false → now (word .entry) ≡ marginsWord → ⊥) ⌝ }
+{
+    same(word, b"--margins")
 }

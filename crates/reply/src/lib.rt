@@ -6,7 +6,7 @@ ghost use Rattle.meaning.specs.Block.{latest};
 ghost use Rattle.meaning.specs.Letters.{modeOf};
 ghost use Rattle.meaning.specs.Call.{over, callWith};
 ghost use Rattle.text.specs.Text.{refusalText};
-ghost use Rattle.reply.specs.Printed.{printed};
+ghost use Rattle.reply.specs.Printed.{printed, printedMargins};
 
 // 12 is not the library's to give: it speaks of standard input.
 fn too_long(page: &mut [u8]) -> usize
@@ -42,4 +42,20 @@ pub fn respond(input: &[u8], heterozygous: bool, page: &mut [u8]) -> usize
     let mut out = [0u8; 4096];
     let r = phased(input, heterozygous, &mut work, &mut out);
     text::write_text(r.number, r.second, &out, page)
+}
+
+// The text with the margins for this input, at the start of the page; and how long it is.
+pub fn respond_margins(input: &[u8], page: &mut [u8]) -> usize
+    requires { ⌜ 32768 ≤ length (now page) ⌝ }
+    ensures { λ r. ⌜ (r ≡ length (printedMargins (now (input .entry)))) × (r ≤ length (now (page .entry))) ⌝ }
+    ensures { λ _. ⌜ now (page .exit) ≡ over (printedMargins (now (input .entry))) (now (page .entry)) ⌝ }
+{
+    if 65536 < input.len() {
+        return too_long(page);
+    }
+    let mut work = [0u32; 16384];
+    let mut out = [0u8; 4096];
+    let mut margins = [0u32; 2048];
+    let r = velejume::phase_margins(input, &mut work, &mut out, &mut margins);
+    text::write_margins(r.number, r.second, &out, &margins, page)
 }

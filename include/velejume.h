@@ -1,8 +1,8 @@
 /* Velejume: haplotype phasing whose answer is proved to be the answer.
 
    Rooms. Each is a pointer and the number of entries from it on. NULL with length 0 is an empty room, lawful wherever a room is asked for.
-   `second` points to a number and is not NULL. What a call writes to (work, out, *second) may overlap nothing else that it is given; a block and
-   an answer are only read and may overlap each other. Every block, every answer and every length is lawful: a call gives an answer, a
+   `second` points to a number and is not NULL. What a call writes to (work, out, margins, *second) may overlap nothing else that it is given; a block
+   and an answer are only read and may overlap each other. Every block, every answer and every length is lawful: a call gives an answer, a
    verdict or a refusal, and stays within its rooms. It allocates nothing, keeps nothing between calls, may run in any number of threads at once,
    each with rooms of its own, and takes about 60 KiB of stack.
 
@@ -24,9 +24,10 @@
 #define VELEJUME_MOST_READS 1024
 #define VELEJUME_MOST_ACTIVE 12
 
-/* Rooms that suffice for every block: entries of work, m x T, and bytes of out, 17 + n + 2m. */
+/* Rooms that suffice for every block: entries of work, m x T, bytes of out, 17 + n + 2m, and numbers of margins, 2m. */
 #define VELEJUME_MOST_ENTRIES 2097152 /* 1024 x 2 to the power 11 */
 #define VELEJUME_LARGEST_ANSWER 3089  /* 17 + 1024 + 2 x 1024 */
+#define VELEJUME_MOST_MARGINS 2048    /* 2 x 1024 */
 
 /* Bytes of the largest block that passes refusals 1 to 8, of version 2, in which each read has all columns. A block that is accepted has at most
    40969 in version 2, 9 + 4 x 1024 + 3 x 12 x 1024, since a column has at most 12 active reads, and 28681 in version 1. */
@@ -34,6 +35,9 @@
 
 /* No cost is above the weight of all entries: 12 active reads in 1024 columns, of weight 65535. In version 1 it is 3133440. */
 #define VELEJUME_LARGEST_COST 805294080 /* 12 x 1024 x 65535 */
+
+/* No margin is above the weight of a column's entries. In version 1 it is 3060. */
+#define VELEJUME_LARGEST_MARGIN 786420 /* 12 x 65535 */
 
 /* Refusals. The checks run in this order, the first that applies is returned, and no room is written to.
 
@@ -51,6 +55,7 @@
         9  a column has more than 12 active reads                                    first such column
        10  work room below m x T entries                                             m x T
        11  output below 17 + n + 2m bytes                                            17 + n + 2m
+       13  of velejume_phase_margins: margins below 2m numbers                       2m
        39  of velejume_convert: output below the bytes of the converted block        these bytes
 
    5, 38, 6 and 7 are looked for read by read: the first read that gets one of them is the second number.
@@ -87,6 +92,16 @@ extern "C" {
    says how many bytes. */
 uint32_t velejume_phase(const uint8_t *block, size_t block_len, uint32_t *work, size_t work_len, uint8_t *out, size_t out_len,
                         uint32_t *second);
+
+/* Phases a fragment block and says how sure each letter is. Returns, and writes to work and out, what velejume_phase does, but for refusal 13, which
+   comes after all others.
+
+   On acceptance the first 2m numbers of margins hold m margins of haplotype 1, then m of haplotype 2; what lies beyond is kept. The margin of a
+   haplotype at a column is the distance between the two sums that its letter is chosen from, the weights of that side's entries with 0 and with 1: what
+   the other letter would cost more. It is 0 exactly where the letter is 2. With sufficient work and output and empty margins, 13 says how many numbers a
+   block takes. */
+uint32_t velejume_phase_margins(const uint8_t *block, size_t block_len, uint32_t *work, size_t work_len, uint8_t *out, size_t out_len,
+                                uint32_t *margins, size_t margins_len, uint32_t *second);
 
 /* Phases a fragment block in the all-heterozygous mode: the two haplotypes differ at every column. Rooms, refusals, layouts and what is kept are those
    of velejume_phase, with another charge. Let W0 of a side be the weight of its entries with 1 at a column, and W1 that of its entries with 0: what a 0 or

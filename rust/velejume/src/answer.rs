@@ -101,6 +101,22 @@ impl Answer {
     }
 }
 
+/// An answer, and how sure each of its letters is. It prints as the program `phase --margins` prints it.
+#[derive(Clone, Debug, PartialEq, Eq)]
+pub struct AnswerWithMargins {
+    pub answer: Answer,
+    /// of haplotype 1 and of haplotype 2, each by column: what the other letter would cost more, 0 exactly where there is no letter
+    pub margins: [Vec<u32>; 2],
+}
+
+impl AnswerWithMargins {
+    /// An answer with the numbers that the library wrote, haplotype 1's first.
+    pub(crate) fn read(answer: Answer, mut margins: Vec<u32>) -> Self {
+        let second = margins.split_off(answer.haplotypes[0].len());
+        AnswerWithMargins { answer, margins: [margins, second] }
+    }
+}
+
 fn line<T: fmt::Display>(f: &mut fmt::Formatter, name: &str, items: &[T]) -> fmt::Result {
     write!(f, "{name} ")?;
     items.iter().try_for_each(|item| item.fmt(f))?;
@@ -118,5 +134,17 @@ impl fmt::Display for Answer {
         }
         line(f, "hap1", &self.haplotypes[0])?;
         line(f, "hap2", &self.haplotypes[1])
+    }
+}
+
+impl fmt::Display for AnswerWithMargins {
+    fn fmt(&self, f: &mut fmt::Formatter) -> fmt::Result {
+        self.answer.fmt(f)?;
+        for (name, margins) in ["margin1", "margin2"].iter().zip(&self.margins) {
+            write!(f, "{name}")?;
+            margins.iter().try_for_each(|margin| write!(f, " {margin}"))?;
+            writeln!(f)?;
+        }
+        Ok(())
     }
 }

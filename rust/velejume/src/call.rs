@@ -23,6 +23,18 @@ unsafe extern "C" {
         second: *mut u32,
     ) -> u32;
 
+    fn velejume_phase_margins(
+        block: *const u8,
+        block_len: usize,
+        work: *mut u32,
+        work_len: usize,
+        out: *mut u8,
+        out_len: usize,
+        margins: *mut u32,
+        margins_len: usize,
+        second: *mut u32,
+    ) -> u32;
+
     fn velejume_judge(
         block: *const u8,
         block_len: usize,
@@ -44,7 +56,7 @@ pub struct Numbers {
 }
 
 impl Numbers {
-    /// Of [`phase_in`] and [`phase_heterozygous_in`]: the cost on acceptance, else the refusal.
+    /// Of [`phase_in`], [`phase_heterozygous_in`] and [`phase_margins_in`]: the cost on acceptance, else the refusal.
     pub fn cost(self) -> Result<u32, Refusal> {
         match self.number {
             0 => Ok(self.second),
@@ -116,6 +128,43 @@ unsafe fn phased(call: Phase, block: &[u8], work: &mut [u32], out: &mut [u8]) ->
     // SAFETY: each pointer stands with the length of its slice, and the slices do not overlap
     let number = unsafe {
         call(block.as_ptr(), block.len(), work.as_mut_ptr(), work.len(), out.as_mut_ptr(), out.len(), &mut second)
+    };
+    Numbers { number, second }
+}
+
+/// Phases a fragment block in rooms that the caller lends, of any size, and writes the margins of its letters.
+///
+/// Numbers, `work` and `out` are those of [`phase_in`], but for refusal 13, which comes last. On acceptance the first 2m numbers of
+/// `margins` hold m margins of haplotype 1, then m of haplotype 2: what the other letter would cost more, 0 exactly where there is no
+/// letter. What lies beyond is kept. A refusal writes nothing.
+///
+/// ```
+/// use velejume::{Refusal, phase_margins_in};
+///
+/// let block = [1, 0, 0, 0, 10, 0, 1, 0, 1, 0, 4, 0, 0, 0, 7]; // 0:7
+/// let (mut work, mut out, mut margins) = ([9; 2], [9; 21], [9; 3]);
+/// assert_eq!(phase_margins_in(&block, &mut work, &mut out, &mut margins).cost(), Ok(0));
+/// assert_eq!((&out[17..], margins), (&[0, 0, 2, 9][..], [7, 0, 9])); // side 0, haplotypes 0 and -
+///
+/// let refusal = phase_margins_in(&block, &mut work, &mut out, &mut margins[..1]).cost();
+/// assert_eq!(refusal, Err(Refusal::MarginRoom { need: 2 }));
+/// ```
+pub fn phase_margins_in(block: &[u8], work: &mut [u32], out: &mut [u8], margins: &mut [u32]) -> Numbers {
+    let mut second = 0;
+    // SAFETY: each pointer stands with the length of its slice, and the slices do not overlap. The call is proved to stay
+    // within them for every block and every length.
+    let number = unsafe {
+        velejume_phase_margins(
+            block.as_ptr(),
+            block.len(),
+            work.as_mut_ptr(),
+            work.len(),
+            out.as_mut_ptr(),
+            out.len(),
+            margins.as_mut_ptr(),
+            margins.len(),
+            &mut second,
+        )
     };
     Numbers { number, second }
 }

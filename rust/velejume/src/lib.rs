@@ -1,10 +1,11 @@
 //! Haplotype phasing whose answer is proved to be the answer.
 //!
 //! [`phase`] takes a fragment block and gives the least cost, a side for each read, both haplotypes and the table, or says
-//! why the block is refused; [`phase_heterozygous`] does the same for haplotypes that differ at every column. [`judge`] takes a
-//! builder's answer beside it and gives the first verdict that applies. [`convert`] turns a block of version 1 into one of
-//! version 2 without its reads without cells. [`phase_in`], [`phase_heterozygous_in`], [`judge_in`] and [`convert_in`] are the
-//! proved calls themselves, for callers that lend their own rooms.
+//! why the block is refused; [`phase_margins`] says beside it how sure each letter is, and [`phase_heterozygous`] phases for
+//! haplotypes that differ at every column. [`judge`] takes a builder's answer beside the block and gives the first verdict that
+//! applies. [`convert`] turns a block of version 1 into one of version 2 without its reads without cells. [`phase_in`],
+//! [`phase_margins_in`], [`phase_heterozygous_in`], [`judge_in`] and [`convert_in`] are the proved calls themselves, for callers
+//! that lend their own rooms.
 //!
 //! ```
 //! // the matrix of the WhatsHap paper's Figure 1: 0:5 . / 1:3 0:2 / 1:6 1:1 / . 0:2
@@ -34,8 +35,8 @@ mod call;
 mod refusal;
 mod verdict;
 
-pub use answer::{Answer, Letter, Table};
-pub use call::{Numbers, convert_in, judge_in, phase_heterozygous_in, phase_in};
+pub use answer::{Answer, AnswerWithMargins, Letter, Table};
+pub use call::{Numbers, convert_in, judge_in, phase_heterozygous_in, phase_in, phase_margins_in};
 pub use refusal::Refusal;
 pub use verdict::Verdict;
 
@@ -44,6 +45,9 @@ pub const WORK_ENTRIES: usize = 1024 * 2048;
 
 /// Output bytes that suffice for every block: 1,024 reads and 1,024 columns.
 pub const OUTPUT_BYTES: usize = 17 + 1024 + 2 * 1024;
+
+/// Margins that suffice for every block: two for each of 1,024 columns.
+pub const MARGINS: usize = 2 * 1024;
 
 /// Bytes that no fragment block of a matrix exceeds: 1,024 reads of 1,024 cells, three bytes a cell in version 2. With at most 12
 /// active reads a block has at most 40,969.
@@ -62,7 +66,29 @@ pub const BLOCK_BYTES: usize = 9 + 1024 * (4 + 3 * 1024);
 /// assert_eq!(refusal.to_string(), "fewer than 9 bytes");
 /// ```
 pub fn phase(block: &[u8]) -> Result<Answer, Refusal> {
-    answered(phase_in, block)
+    answered(|work, out| phase_in(block, work, out))
+}
+
+/// Phases a fragment block as [`phase`] does, and gives the margin of each letter: the distance between the two sums that it is
+/// chosen from, which is what the other letter would cost more. It is 0 exactly where there is no letter. Refusals are the same.
+///
+/// ```
+/// let block = [1, 0, 0, 0, 16, 0, 1, 0, 2, 0, 4, 0, 0, 0, 5, 0, 4, 0, 0, 0, 3]; // 0:5 / 0:3
+/// let sure = velejume::phase_margins(&block).unwrap();
+/// assert_eq!(sure.answer, velejume::phase(&block).unwrap());
+/// assert_eq!(sure.margins, [[8], [0]]);
+/// assert_eq!(sure.to_string(), "cost 0\nflips 0\nsides 00\nhap1 0\nhap2 -\nmargin1 8\nmargin2 0\n");
+/// ```
+pub fn phase_margins(block: &[u8]) -> Result<AnswerWithMargins, Refusal> {
+    let mut margins = Vec::new();
+    let answer = answered(|work, out| match phase_margins_in(block, work, out, &mut margins) {
+        Numbers { number: 13, second } => {
+            margins.resize(second as usize, 0);
+            phase_margins_in(block, work, out, &mut margins)
+        }
+        numbers => numbers,
+    })?;
+    Ok(AnswerWithMargins::read(answer, margins))
 }
 
 /// Phases a fragment block in the all-heterozygous mode: the haplotypes differ at every column. A column is charged the lesser of
@@ -80,20 +106,20 @@ pub fn phase(block: &[u8]) -> Result<Answer, Refusal> {
 /// assert_eq!(velejume::phase_heterozygous(&block).unwrap().cost, 3);
 /// ```
 pub fn phase_heterozygous(block: &[u8]) -> Result<Answer, Refusal> {
-    answered(phase_heterozygous_in, block)
+    answered(|work, out| phase_heterozygous_in(block, work, out))
 }
 
 /// The answer of a call that phases, in rooms as large as the call itself says that it needs.
-fn answered(call: fn(&[u8], &mut [u32], &mut [u8]) -> Numbers, block: &[u8]) -> Result<Answer, Refusal> {
-    let mut work = match call(block, &mut [], &mut []).cost() {
+fn answered(mut call: impl FnMut(&mut [u32], &mut [u8]) -> Numbers) -> Result<Answer, Refusal> {
+    let mut work = match call(&mut [], &mut []).cost() {
         Err(Refusal::WorkRoom { need }) => vec![0; need as usize],
         other => return Err(other.expect_err("no table fits into no room")),
     };
-    let mut out = match call(block, &mut work, &mut []).cost() {
+    let mut out = match call(&mut work, &mut []).cost() {
         Err(Refusal::OutputRoom { need }) => vec![0; need as usize],
         other => return Err(other.expect_err("no answer fits into no room")),
     };
-    call(block, &mut work, &mut out).cost()?;
+    call(&mut work, &mut out).cost()?;
     Ok(Answer::read(&out, work))
 }
 

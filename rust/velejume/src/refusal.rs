@@ -32,6 +32,8 @@ pub enum Refusal {
     WorkRoom { need: u32 },
     /// 11: output below 17 + n + 2m bytes.
     OutputRoom { need: u32 },
+    /// 13, of a phasing with margins: margin room below 2m numbers.
+    MarginRoom { need: u32 },
     /// 39: output below the bytes of the converted block.
     ConvertRoom { need: u32 },
 }
@@ -52,6 +54,7 @@ impl Refusal {
             9 => Refusal::Active { column: second },
             10 => Refusal::WorkRoom { need: second },
             11 => Refusal::OutputRoom { need: second },
+            13 => Refusal::MarginRoom { need: second },
             38 => Refusal::NoCells { read: second },
             39 => Refusal::ConvertRoom { need: second },
             _ => panic!("the library gives {number}, which is no refusal"),
@@ -72,6 +75,7 @@ impl Refusal {
             Refusal::Active { .. } => 9,
             Refusal::WorkRoom { .. } => 10,
             Refusal::OutputRoom { .. } => 11,
+            Refusal::MarginRoom { .. } => 13,
             Refusal::NoCells { .. } => 38,
             Refusal::ConvertRoom { .. } => 39,
         }
@@ -85,7 +89,10 @@ impl Refusal {
             | Refusal::Columns { read }
             | Refusal::Cell { read } => read,
             Refusal::Active { column } => column,
-            Refusal::WorkRoom { need } | Refusal::OutputRoom { need } | Refusal::ConvertRoom { need } => need,
+            Refusal::WorkRoom { need }
+            | Refusal::OutputRoom { need }
+            | Refusal::MarginRoom { need }
+            | Refusal::ConvertRoom { need } => need,
             _ => 0,
         }
     }
@@ -113,6 +120,7 @@ impl fmt::Display for Refusal {
             Refusal::Active { column } => write!(f, "column {column} has more than 12 active reads"),
             Refusal::WorkRoom { need } => write!(f, "work room below m × T = {need} entries"),
             Refusal::OutputRoom { need } => write!(f, "output below 17 + n + 2m = {need} bytes"),
+            Refusal::MarginRoom { need } => write!(f, "margin room below 2m = {need} numbers"),
             Refusal::ConvertRoom { need } => write!(f, "output below the {need} bytes of the converted block"),
         }
     }

@@ -1,7 +1,10 @@
 //! Each refusal with its words and its second number.
 
 use matrix::{VERSIONS, cell_bytes, parse};
-use velejume::{Refusal, convert, convert_in, judge, phase, phase_heterozygous, phase_heterozygous_in, phase_in};
+use velejume::{
+    Refusal, convert, convert_in, judge, phase, phase_heterozygous, phase_heterozygous_in, phase_in, phase_margins,
+    phase_margins_in,
+};
 
 /// The block of `0:5 . 1:3 / 0:7` in a version, and where its second read begins.
 fn example(version: u8) -> (Vec<u8>, usize) {
@@ -55,6 +58,7 @@ fn each_refusal_of_a_block_has_its_words() {
     {
         assert_eq!(phase(&block), Err(refusal), "{block:?}");
         assert_eq!(phase_heterozygous(&block), Err(refusal), "{block:?}");
+        assert_eq!(phase_margins(&block), Err(refusal), "{block:?}");
         assert_eq!(refusal.number(), i as u32 + 1);
         assert_eq!(refusal.to_string(), words);
     }
@@ -74,6 +78,7 @@ fn a_read_without_cells_is_refused_in_version_2() {
     assert_eq!((refusal, refusal.number(), refusal.second()), (Refusal::NoCells { read: 1 }, 38, 1));
     assert_eq!(refusal.to_string(), "read 1: c = 0 in version 2");
     assert_eq!(phase_heterozygous(&without(2)), Err(refusal));
+    assert_eq!(phase_margins(&without(2)), Err(refusal));
     assert_eq!(judge(&without(2), b"no answer"), Err(refusal));
     assert_eq!(phase(&without(1)).unwrap().sides, [0, 0]);
 }
@@ -120,6 +125,29 @@ fn rooms_that_are_too_small_are_refused_with_their_need() {
         assert_eq!((out, out.number(), out.second()), (Refusal::OutputRoom { need: 25 }, 11, 25));
         assert_eq!(out.to_string(), "output below 17 + n + 2m = 25 bytes");
         assert!(call(&block, &mut [0; 6], &mut [0; 25]).cost().is_ok());
+    }
+}
+
+#[test]
+fn margin_rooms_that_are_too_small_are_refused_last_and_nothing_is_written() {
+    for (block, _) in VERSIONS.map(example) {
+        let (mut work, mut out, mut margins) = ([9; 7], [9; 26], [9; 7]);
+        let mut refused = |work_len: usize, out_len: usize, room: usize| {
+            let rooms = (&mut work[..work_len], &mut out[..out_len], &mut margins[..room]);
+            let refusal = phase_margins_in(&block, rooms.0, rooms.1, rooms.2).cost().unwrap_err();
+            assert_eq!((work, out, margins), ([9; 7], [9; 26], [9; 7]), "{refusal:?}");
+            refusal
+        };
+        for room in 0..6 {
+            let refusal = refused(7, 26, room);
+            assert_eq!((refusal, refusal.number(), refusal.second()), (Refusal::MarginRoom { need: 6 }, 13, 6));
+            assert_eq!(refusal.to_string(), "margin room below 2m = 6 numbers");
+            assert_eq!(refused(6, 24, room), Refusal::OutputRoom { need: 25 });
+            assert_eq!(refused(5, 24, room), Refusal::WorkRoom { need: 6 });
+        }
+        let numbers = phase_margins_in(&block, &mut work, &mut out, &mut margins);
+        assert_eq!((numbers.cost(), margins), (Ok(0), [12, 0, 3, 0, 0, 0, 9]));
+        assert_eq!((work[6], out[25]), (9, 9));
     }
 }
 

@@ -1,6 +1,7 @@
 //! A block and the rooms to solve it in.
 
 use blocks::{Field, Kind, Random};
+use solver::Block;
 
 /// The size of a room, by what the block needs.
 #[derive(Clone, Copy, Debug, PartialEq, Eq)]
@@ -36,6 +37,8 @@ pub struct Case {
     pub block: Vec<u8>,
     pub work: (Size, usize),
     pub out: (Size, usize),
+    /// the run of margins, of a call that has one
+    pub run: (Size, usize),
 }
 
 /// Any size, one that suffices in three cases of four.
@@ -64,11 +67,12 @@ impl Case {
         };
         // a refused block needs no room: then the rooms are as for some small one
         let (entries, length) = solver::rooms(&block).unwrap_or((60, 40));
-        let (work, out) = (size(entries, random), size(length, random));
-        Case { kind, version, field, block, work, out }
+        let margins = Block::read(&block).map_or(10, |block| 2 * block.columns);
+        let (work, out, run) = (size(entries, random), size(length, random), size(margins, random));
+        Case { kind, version, field, block, work, out, run }
     }
 
-    /// The sizes of both rooms.
+    /// The sizes of work room and output.
     pub fn rooms(&self) -> (usize, usize) {
         (self.work.1, self.out.1)
     }

@@ -30,35 +30,42 @@ pub fn searchable(block: &[u8]) -> bool {
     })
 }
 
+/// The independent solvers for a block, plain search where it does not take long.
+pub fn solvers(block: &[u8]) -> impl Iterator<Item = (&'static str, Phase)> {
+    let solvers: [(&str, Phase); 2] = [("columns", solver::columns), ("plain search", solver::exhaustive)];
+    solvers.into_iter().take(1 + usize::from(searchable(block)))
+}
+
 /// Bytes as a message shows them.
 pub fn hexadecimal(bytes: &[u8]) -> String {
     bytes.iter().map(|byte| format!("{byte:02x}")).collect()
 }
 
 /// A call must leave as it was: all on a refusal, else what lies beyond table and answer; the block and the guards always.
-fn kept(block: &[u8], before: &Rooms, after: &(Numbers, Rooms)) -> Result<(), String> {
-    let written = match (after.0, solver::rooms(block)) {
+pub fn kept(block: &[u8], before: &Rooms, (numbers, after): (Numbers, &Rooms)) -> Result<(), String> {
+    let written = match (numbers, solver::rooms(block)) {
         ((0, _), Ok(written)) => written,
         ((0, _), Err(refusal)) => return Err(format!("accepted, not refused by {refusal:?}")),
         _ => (0, 0),
     };
-    let work = after.1.work.kept_from(written.0, &before.work);
-    let out = after.1.out.kept_from(written.1, &before.out);
-    match after.1.block == before.block && work && out {
+    let work = after.work.kept_from(written.0, &before.work);
+    let out = after.out.kept_from(written.1, &before.out);
+    match after.block == before.block && work && out {
         true => Ok(()),
-        false => Err(format!("{:?}, and something is written that is to be kept", after.0)),
+        false => Err(format!("{numbers:?}, and something is written that is to be kept")),
     }
 }
 
-fn same(name: &str, given: &(Numbers, Rooms), wanted: &(Numbers, Rooms)) -> Result<(), String> {
-    if given.0 != wanted.0 {
-        return Err(format!("gives {:?}, {name} {:?}", given.0, wanted.0));
+/// Both must give the same numbers and leave the same rooms.
+pub fn same(name: &str, (numbers, given): (Numbers, &Rooms), wanted: (Numbers, &Rooms)) -> Result<(), String> {
+    if numbers != wanted.0 {
+        return Err(format!("gives {numbers:?}, {name} {:?}", wanted.0));
     }
-    if let Some(place) = given.1.work.difference(&wanted.1.work) {
-        return Err(format!("{:?}, work entry {place} is not as by {name}", given.0));
+    if let Some(place) = given.work.difference(&wanted.1.work) {
+        return Err(format!("{numbers:?}, work entry {place} is not as by {name}"));
     }
-    if let Some(place) = given.1.out.difference(&wanted.1.out) {
-        return Err(format!("{:?}, output byte {place} is not as by {name}", given.0));
+    if let Some(place) = given.out.difference(&wanted.1.out) {
+        return Err(format!("{numbers:?}, output byte {place} is not as by {name}"));
     }
     Ok(())
 }
@@ -73,15 +80,14 @@ pub fn check(
     random: &mut Random,
 ) -> Result<(Numbers, bool), String> {
     let before = Rooms::random(block, work, out, random);
-    let given = called(call, mode, &before);
+    let (numbers, given) = called(call, mode, &before);
     let fault = |fault: String| format!("{mode:?}: {fault}; work {work}, out {out}, block {}", hexadecimal(block));
-    kept(block, &before, &given).map_err(fault)?;
-    same("columns", &given, &called(solver::columns, mode, &before)).map_err(fault)?;
-    let searched = searchable(block);
-    if searched {
-        same("plain search", &given, &called(solver::exhaustive, mode, &before)).map_err(fault)?;
+    kept(block, &before, (numbers, &given)).map_err(fault)?;
+    for (name, phase) in solvers(block) {
+        let (wanted, rooms) = called(phase, mode, &before);
+        same(name, (numbers, &given), (wanted, &rooms)).map_err(fault)?;
     }
-    Ok((given.0, searched && given.0.0 == 0))
+    Ok((numbers, searchable(block) && numbers.0 == 0))
 }
 
 /// The proved call of a mode, compared on a case.

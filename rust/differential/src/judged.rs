@@ -1,10 +1,10 @@
 //! One judging, compared in everything.
 
 use crate::Judging;
-use crate::check::{hexadecimal, searchable};
+use crate::check::{hexadecimal, searchable, solvers};
 use crate::rooms::Room;
 use blocks::Random;
-use solver::{Numbers, Phase};
+use solver::Numbers;
 
 /// What one judging is lent, with guards around it.
 #[derive(Clone, PartialEq, Eq)]
@@ -58,9 +58,7 @@ pub fn check_judge(
     let fault =
         |fault: String| format!("{fault}; work {work}, answer {}, block {}", hexadecimal(answer), hexadecimal(block));
     kept(block, &before, &given).map_err(fault)?;
-    let searched = searchable(block);
-    let solvers: &[(&str, Phase)] = &[("columns", solver::columns), ("plain search", solver::exhaustive)];
-    for &(name, phase) in &solvers[..1 + usize::from(searched)] {
+    for (name, phase) in solvers(block) {
         let wanted = judged(|block, answer, work| solver::judge(phase, block, answer, work), &before);
         if given.0 != wanted.0 {
             return Err(fault(format!("gives {:?}, {name} {:?}", given.0, wanted.0)));
@@ -69,7 +67,7 @@ pub fn check_judge(
             return Err(fault(format!("{:?}, work entry {place} is not as by {name}", given.0)));
         }
     }
-    Ok((given.0, searched))
+    Ok((given.0, searchable(block)))
 }
 
 /// The proved judging, compared on a case.

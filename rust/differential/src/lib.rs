@@ -1,5 +1,5 @@
 //! The proved calls against the independent solver, in both modes: both numbers, every entry of the work room, every byte of the
-//! output, what lies beyond and around them, the block and the judged answer; and the converter.
+//! output, every margin, what lies beyond and around them, the block and the judged answer; and the converter.
 
 mod builder;
 mod case;
@@ -9,6 +9,7 @@ mod converted;
 mod fault;
 mod judged;
 mod judging;
+mod margins;
 mod parts;
 mod rooms;
 mod tally;
@@ -21,6 +22,7 @@ pub use converted::{Convert, check_conversion, check_convert, proved_convert};
 pub use fault::Fault;
 pub use judged::{Judge, check_judge, check_judging, proved_judge};
 pub use judging::Judging;
+pub use margins::{Margins, check_case_margins, check_margins, proved_margins};
 pub use parts::{Parts, Sums, choices, counts, sums};
 pub use tally::Tally;
 

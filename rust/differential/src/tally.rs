@@ -30,6 +30,16 @@ impl Tally {
     /// Notes a case in a mode and what came of it: the numbers and whether every division was tried, or what differs.
     pub fn note(&mut self, mode: Mode, case: &Case, checked: Result<(Numbers, bool), String>) {
         self.count("mode", mode);
+        self.note_phased(case, checked);
+    }
+
+    /// Notes a case with margins and what came of it.
+    pub fn note_margins(&mut self, case: &Case, checked: Result<(Numbers, bool), String>) {
+        self.count("run", case.run.0);
+        self.note_phased(case, checked);
+    }
+
+    fn note_phased(&mut self, case: &Case, checked: Result<(Numbers, bool), String>) {
         self.count_block(case.kind, case.version, case.field);
         self.count("work room", case.work.0);
         self.count("output", case.out.0);

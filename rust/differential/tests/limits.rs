@@ -1,10 +1,10 @@
-//! Both sides of each limit of documents 01 and 02, in both versions and both modes, with the numbers that they give.
+//! Both sides of each limit of documents 01 and 02, in both versions and both modes and with margins, with the numbers that they give.
 
 use blocks::{Gaps, Random, Style, Weights};
-use differential::{check, modes_and_versions, proved};
+use differential::{check, check_margins, modes_and_versions, proved, proved_margins};
 use matrix::{Matrix, Row, VERSIONS, cell_bytes, set_length};
 use solver::{Mode, Numbers};
-use velejume::{OUTPUT_BYTES, WORK_ENTRIES};
+use velejume::{MARGINS, OUTPUT_BYTES, WORK_ENTRIES, phase_margins};
 
 /// The numbers of a block in a mode and in rooms of these sizes, once all agree on them.
 fn numbers_in(mode: Mode, block: &[u8], work: usize, out: usize) -> Numbers {
@@ -14,13 +14,22 @@ fn numbers_in(mode: Mode, block: &[u8], work: usize, out: usize) -> Numbers {
     }
 }
 
-/// The numbers in the general mode. The other has the same refusals, and costs that are not below.
+/// The numbers with margins, in a run of this size, once all agree on them.
+fn numbers_with(block: &[u8], work: usize, out: usize, run: usize) -> Numbers {
+    match check_margins(proved_margins, block, (work, out, run), &mut Random::new(9)) {
+        Ok((numbers, _)) => numbers,
+        Err(fault) => panic!("{fault}"),
+    }
+}
+
+/// The numbers in the general mode, which are those with margins. The other has the same refusals, and costs that are not below.
 fn numbers(block: &[u8], work: usize, out: usize) -> Numbers {
     let [general, heterozygous] = Mode::ALL.map(|mode| numbers_in(mode, block, work, out));
     match (general, heterozygous) {
         ((0, least), (0, cost)) => assert!(least <= cost, "{least}, {cost}"),
         _ => assert_eq!(general, heterozygous),
     }
+    assert_eq!(numbers_with(block, work, out, MARGINS), general);
     general
 }
 
@@ -219,6 +228,40 @@ fn the_largest_block_takes_all_of_the_rooms_that_suffice_for_every_one() {
         assert_eq!(ample(&block).0, 0);
         assert_eq!(numbers(&block, WORK_ENTRIES - 1, OUTPUT_BYTES), (10, WORK_ENTRIES as u32));
         assert_eq!(numbers(&block, WORK_ENTRIES, OUTPUT_BYTES - 1), (11, OUTPUT_BYTES as u32));
+    }
+}
+
+#[test]
+fn runs_of_margins_just_large_enough_and_one_less() {
+    for version in VERSIONS {
+        for columns in [1, 2, 255, 256, 1023, 1024] {
+            let block = full(version, columns, 2).block();
+            let numbers = |run| numbers_with(&block, WORK_ENTRIES, OUTPUT_BYTES, run);
+            let need = 2 * columns;
+            assert_eq!([0, columns, need - 1].map(numbers), [(13, need as u32); 3]);
+            assert_eq!([need, need + 1].map(numbers), [(0, 0); 2]);
+        }
+        let block = longest(version).block();
+        assert_eq!(numbers_with(&block, WORK_ENTRIES, OUTPUT_BYTES, MARGINS - 1), (13, MARGINS as u32));
+        assert_eq!(numbers_with(&block, WORK_ENTRIES, OUTPUT_BYTES - 1, 0), (11, OUTPUT_BYTES as u32));
+        assert_eq!(numbers_with(&block, WORK_ENTRIES - 1, OUTPUT_BYTES - 1, 0), (10, WORK_ENTRIES as u32));
+        assert_eq!(numbers_with(&block, WORK_ENTRIES, OUTPUT_BYTES, MARGINS).0, 0);
+    }
+}
+
+#[test]
+fn the_largest_margins() {
+    for (version, largest) in VERSIONS.into_iter().zip([3_060, 786_420]) {
+        let mut matrix = full(version, 1024, 12);
+        assert_eq!(phase_margins(&matrix.block()).unwrap().margins, [[largest; 1024], [0; 1024]]);
+        // half of the reads have the other letter at the first column, so they are on the other side
+        matrix.rows[..6].iter_mut().for_each(|row| row.cells[0] = Some((0, heaviest(version))));
+        let sure = phase_margins(&matrix.block()).unwrap();
+        let half = largest / 2;
+        assert_eq!((sure.answer.cost, sure.margins.each_ref().map(|run| [run[0], run[1]])), (0, [[half; 2]; 2]));
+        matrix.rows[..6].iter_mut().for_each(|row| row.cells[0] = Some((0, heaviest(version) - 1)));
+        let sure = phase_margins(&matrix.block()).unwrap();
+        assert_eq!(sure.margins.map(|run| [run[0], run[1]]), [[half - 6, half], [half; 2]]);
     }
 }
 

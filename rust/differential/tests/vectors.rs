@@ -1,7 +1,7 @@
 //! The outside vectors of tests/vectors, from solvers that share nothing with the project's, through the proved calls and the
-//! independent solver: both numbers, every entry of the work room, every byte of the output.
+//! independent solver: both numbers, every entry of the work room, every byte of the output, every margin.
 
-use differential::{Convert, Judge, proved, proved_convert, proved_judge, searchable};
+use differential::{Convert, Judge, Margins, proved, proved_convert, proved_judge, proved_margins, searchable};
 use solver::{Mode, Phase};
 use std::collections::{BTreeMap, BTreeSet};
 use std::path::Path;
@@ -50,9 +50,14 @@ impl Line {
         (number(&self.found["number"]), number(&self.found["second"]))
     }
 
-    /// A work room as it is lent.
-    fn work(&self) -> Vec<u32> {
-        vec![u32::from_ne_bytes([LENT; 4]); number(&self.lent["work"]) as usize]
+    /// A room of numbers as it is lent.
+    fn room(&self, name: &str) -> Vec<u32> {
+        vec![u32::from_ne_bytes([LENT; 4]); number(&self.lent[name]) as usize]
+    }
+
+    /// An output as it is lent.
+    fn out(&self) -> Vec<u8> {
+        vec![LENT; number(&self.lent["out"]) as usize]
     }
 
     fn mode(&self) -> Mode {
@@ -65,21 +70,34 @@ impl Line {
 
     fn phase(&self, name: &str, call: Phase) {
         let block = bytes(&self.lent["block"]);
-        let (mut work, mut out) = (self.work(), vec![LENT; number(&self.lent["out"]) as usize]);
+        let (mut work, mut out) = (self.room("work"), self.out());
         let numbers = call(self.mode(), &block, &mut work, &mut out);
+        self.phased(name, (numbers, work, out));
+    }
+
+    /// Numbers, work room and output must be as found.
+    fn phased(&self, name: &str, (numbers, work, out): ((u32, u32), Vec<u32>, Vec<u8>)) {
         assert_eq!(numbers, self.numbers(), "{name}: {}", self.lent["block"]);
         assert_eq!(work, entries(&self.found["work"]), "{name}: {}", self.lent["block"]);
         assert_eq!(out, bytes(&self.found["out"]), "{name}: {}", self.lent["block"]);
     }
 
+    fn margins(&self, name: &str, call: Margins) {
+        let block = bytes(&self.lent["block"]);
+        let (mut work, mut out, mut run) = (self.room("work"), self.out(), self.room("margins"));
+        let numbers = call(&block, &mut work, &mut out, &mut run);
+        self.phased(name, (numbers, work, out));
+        assert_eq!(run, entries(&self.found["margins"]), "{name}: {}", self.lent["block"]);
+    }
+
     fn convert(&self, name: &str, convert: Convert) {
-        let (block, mut out) = (bytes(&self.lent["block"]), vec![LENT; number(&self.lent["out"]) as usize]);
+        let (block, mut out) = (bytes(&self.lent["block"]), self.out());
         assert_eq!(convert(&block, &mut out), self.numbers(), "{name}: {}", self.lent["block"]);
         assert_eq!(out, bytes(&self.found["out"]), "{name}: {}", self.lent["block"]);
     }
 
     fn judge(&self, name: &str, judge: Judge) {
-        let (block, answer, mut work) = (bytes(&self.lent["block"]), bytes(&self.lent["answer"]), self.work());
+        let (block, answer, mut work) = (bytes(&self.lent["block"]), bytes(&self.lent["answer"]), self.room("work"));
         let numbers = judge(&block, &answer, &mut work);
         assert_eq!(numbers, self.numbers(), "{name}: {}", self.lent["block"]);
         assert_eq!(work, entries(&self.found["work"]), "{name}: {}", self.lent["block"]);
@@ -94,7 +112,8 @@ fn met<'a>(lines: impl IntoIterator<Item = &'a Line>, version: u8) -> BTreeSet<u
 
 #[test]
 fn blocks_of_both_versions_are_phased_as_outside_in_both_modes() {
-    let lines = lines("solve.txt");
+    // 13 is of calls with margins
+    let lines: Vec<Line> = lines("solve.txt").into_iter().filter(|line| line.numbers().0 != 13).collect();
     let solvers: [(&str, Phase); 3] = [("proved", proved), ("columns", solver::columns), ("walk", solver::walk)];
     for line in &lines {
         solvers.iter().for_each(|(name, call)| line.phase(name, *call));
@@ -108,6 +127,24 @@ fn blocks_of_both_versions_are_phased_as_outside_in_both_modes() {
     assert!(met(general, 2).is_superset(&[0, 1, 7, 8, 10, 11].into()));
     assert!(met(heterozygous.clone(), 1).is_superset(&[0, 5, 7, 10, 11].into()));
     assert!(met(heterozygous, 2).is_superset(&[0, 1, 3, 4, 5, 7, 8, 10, 11, 38].into()));
+}
+
+#[test]
+fn margins_of_blocks_of_both_versions_are_as_outside() {
+    let lines: Vec<Line> = lines("solve.txt").into_iter().filter(|line| line.mode() == Mode::General).collect();
+    for line in &lines {
+        line.margins("proved", proved_margins);
+        line.margins("columns", |block, work, out, run| solver::margins(solver::columns, block, work, out, run));
+        if searchable(&bytes(&line.lent["block"])) {
+            let searched = |block: &[u8], work: &mut [u32], out: &mut [u8], run: &mut [u32]| {
+                solver::margins(solver::exhaustive, block, work, out, run)
+            };
+            line.margins("plain search", searched);
+        }
+    }
+    assert_eq!((lines.len(), lines.iter().filter(|line| line.numbers().0 == 13).count()), (185, 15));
+    assert!(met(&lines, 1).is_superset(&[0, 1, 3, 4, 5, 8, 10, 11, 13].into()));
+    assert!(met(&lines, 2).is_superset(&[0, 1, 7, 8, 10, 11, 13].into()));
 }
 
 fn by_columns(block: &[u8], answer: &[u8], work: &mut [u32]) -> (u32, u32) {

@@ -49,6 +49,42 @@ fn the_wrapper_gives_the_solvers_answers_and_refusals() {
     assert!(answers > 2000 && refusals[1..10].iter().chain(&refusals[38..]).all(|&count| count > 0));
 }
 
+/// The margins that the solver gives in rooms of just the size.
+fn solved_margins(block: &[u8]) -> Result<Vec<u32>, Numbers> {
+    let (mut work, mut out) = solved(Mode::General, block)?;
+    let mut margins = Vec::new();
+    if let (13, need) = solver::margins(solver::columns, block, &mut work, &mut out, &mut []) {
+        margins.resize(need as usize, 0);
+    }
+    assert_eq!(solver::margins(solver::columns, block, &mut work, &mut out, &mut margins).0, 0, "the rooms suffice");
+    Ok(margins)
+}
+
+#[test]
+fn the_wrapper_gives_the_solvers_margins_and_refusals() {
+    let mut random = Random::new(60);
+    let (mut answers, mut refusals) = (0, 0);
+    for i in 0..3000 {
+        let kind = if i % 100 == 0 { random.pick(&Kind::LARGE) } else { random.pick(&Kind::SMALL) };
+        let field = random.one_in(2).then(|| random.pick(&Field::ALL));
+        let block = Case::random(kind, random.pick(&VERSIONS), field, &mut random).block;
+        match (velejume::phase_margins(&block), solved_margins(&block)) {
+            (Ok(sure), Ok(margins)) => {
+                assert_eq!(sure.margins.concat(), margins, "{block:?}");
+                assert_eq!(Ok(sure.answer), velejume::phase(&block));
+                answers += 1;
+            }
+            (Err(refusal), Err(numbers)) => {
+                assert_eq!((refusal.number(), refusal.second()), numbers, "{block:?}");
+                refusals += 1;
+            }
+            (given, solved) => panic!("{given:?}, not {solved:?} of {block:?}"),
+        }
+    }
+    println!("{answers} answers, {refusals} refusals");
+    assert!(answers > 1000 && refusals > 1000, "{answers}, {refusals}");
+}
+
 #[test]
 fn the_wrapper_gives_the_solvers_verdicts_and_refusals() {
     let mut random = Random::new(17);

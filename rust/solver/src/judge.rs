@@ -1,5 +1,6 @@
 //! Wish 7 of document 02: a builder's answer, verdict by verdict.
 
+use crate::weights::weights;
 use crate::{Block, Mode, Numbers, Phase, Stated};
 
 /// The bytes of the longest answer: 1,024 reads and 1,024 columns.
@@ -32,20 +33,6 @@ fn verdict(block: &Block, answer: &[u8], ours: &[u8], least: u32) -> Numbers {
         Some(_) if answer[17..] != ours[17..answer.len()] => (56, 0),
         Some(_) => (57, 0),
     }
-}
-
-/// By side, column and letter: the weight of the side's entries there that have this letter.
-fn weights(block: &Block, sides: &[u8]) -> [Vec<[u32; 2]>; 2] {
-    let mut weights = [vec![[0; 2]; block.columns], vec![[0; 2]; block.columns]];
-    for (read, &side) in block.reads.iter().zip(sides) {
-        let span = &mut weights[usize::from(side)][usize::from(read.first)..];
-        for (weights, (letter, weight)) in span.iter_mut().zip(block.cells(read)) {
-            if letter < 2 {
-                weights[usize::from(letter)] += weight;
-            }
-        }
-    }
-    weights
 }
 
 /// The weight of the entries that disagree with the stated haplotypes, a `-` at either sum; None if there is a `-` where

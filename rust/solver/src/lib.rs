@@ -2,8 +2,8 @@
 //!
 //! [`exhaustive`] tries every division of the reads and is for small blocks. [`columns`] is the column
 //! method, written for speed, and [`walk`] the same with one entry at each step. All take a [`Mode`] and the rooms that the proved
-//! calls take, and leave in them what documents 01 and 02 say, entry by entry and byte by byte. [`judge`] judges a builder's
-//! answer by either, as document 02 says.
+//! calls take, and leave in them what documents 01 and 02 say, entry by entry and byte by byte. [`margins`] also says by either how sure
+//! each letter is, and [`judge`] judges a builder's answer, as document 02 says.
 //!
 //! [`convert`] turns a block of version 1 into one of version 2 without its empty reads.
 //!
@@ -16,8 +16,10 @@ mod columns;
 mod convert;
 mod exhaustive;
 mod judge;
+mod margins;
 mod mode;
 mod stated;
+mod weights;
 
 pub use block::{Block, Read};
 pub use checks::rooms;
@@ -25,6 +27,7 @@ pub use columns::{columns, forgetful, walk};
 pub use convert::convert;
 pub use exhaustive::exhaustive;
 pub use judge::judge;
+pub use margins::margins;
 pub use mode::Mode;
 pub use stated::Stated;
 

@@ -19,6 +19,14 @@ pub fn letter(letter: u8, other: bool, wrong: bool) -> String {
     format!("<td class=\"{class}\">{}{}", ["0", "1", "-"][usize::from(letter)], if wrong { MARK } else { "" })
 }
 
+/// The margin of a letter, marked if it is weak.
+pub fn margin(margin: u32, weak: bool) -> String {
+    match weak {
+        true => format!("<td class=\"weak\">{margin}<i>?</i>"),
+        false => format!("<td>{margin}"),
+    }
+}
+
 /// A hole inside a read.
 pub fn hole() -> String {
     "<td class=\"hole\">".to_string()

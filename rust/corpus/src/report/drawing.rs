@@ -65,6 +65,18 @@ impl Drawing<'_> {
         format!("<tr class=\"hap\"><th>haplotype {}{}\n", side + 1, letters.collect::<String>())
     }
 
+    /// The margins of a haplotype's letters, where they are known. Weak ones are marked.
+    fn margins(&self, side: usize) -> String {
+        let Some(margins) = &self.division.margins else {
+            return String::new();
+        };
+        let numbers = self.places.iter().map(|place| match *place {
+            Place::LeftOut(_) => cell::left_out(false),
+            Place::Column(column) => cell::margin(margins[side][column], self.marks.weak.contains(&(side, column))),
+        });
+        format!("<tr class=\"margin\"><th>margin{}\n", numbers.collect::<String>())
+    }
+
     /// One cell of a read: an entry, marked if it disagrees; a bar in a hole; nothing where there is no cell.
     fn cell(&self, read: usize, column: usize) -> String {
         let row = &self.matrix.rows[read];
@@ -98,6 +110,7 @@ impl Drawing<'_> {
         let width = self.places.len() + 1;
         let mut rows = format!("<tbody><tr class=\"side\"><th colspan=\"{width}\">side {side}\n");
         rows += &self.haplotype(usize::from(side));
+        rows += &self.margins(usize::from(side));
         let here = |read: &usize| self.division.sides[*read] == side && self.draws(&self.matrix.rows[*read]);
         let reads: Vec<usize> = (0..self.matrix.rows.len()).filter(here).collect();
         rows.extend(reads.iter().map(|&read| self.read(read)));

@@ -86,6 +86,36 @@ fn no_entry_is_marked_at_a_dash_and_a_false_dash_is() {
 }
 
 #[test]
+fn margins_of_our_letters_are_drawn_and_weak_ones_are_marked() {
+    // an entry weighs 37 / 8
+    let page = page_of("margins", P2, "4, 1, 101, 000, 111");
+    let [builder, ours] = figures(&page);
+    assert!(!builder.contains("<tr class=\"margin\">"), "a builder states none");
+    let first = "<tr class=\"margin\"><th>margin<td>9<td>5<td class=\"weak\">2<i>?</i>\n";
+    let second = "<tr class=\"margin\"><th>margin<td>5<td>5<td>5\n";
+    holds(
+        ours,
+        &[&format!("<td class=\"l0\">0\n{first}<tr><th><b>read 0 ⇄"), &format!("<td class=\"l1\">1\n{second}<tr>")],
+    );
+    holds(&page, &["<td class=\"weak\">2<i>?</i><td class=\"text\">a weak one: "]);
+    // an entry weighs 5; where there is no letter nothing is weak
+    let page = page_of("margins-average", "0:4 0:1 . / 1:6 1:9 .", "0, 0, 10, 11-, 00-");
+    let [_, ours] = figures(&page);
+    holds(
+        ours,
+        &["<th>margin<td class=\"weak\">4<i>?</i><td class=\"weak\">1<i>?</i><td>0\n", "<th>margin<td>6<td>9<td>0\n"],
+    );
+    let page = page_of("margins-equal", "0:5 . / 1:5 .", "0, 0, 10, 1-, 0-");
+    assert_eq!(figures(&page)[1].matches("<th>margin<td>5<td>0\n").count(), 2);
+}
+
+#[test]
+fn the_largest_margin_is_drawn_whole() {
+    let page = page_of("margins-largest", &["1:65535"; 12].join(" / "), &format!("65535, 1, {}, 0, 1", "1".repeat(12)));
+    holds(figures(&page)[1], &["<th>margin<td>786420\n", "<th>margin<td>0\n"]);
+}
+
+#[test]
 fn absent_cells_are_blank_and_reads_without_cells_are_named() {
     let page = page_of("blank", ". / . 0:7 . / 1:1 . 1:1", "0, 0, 101, 000, 111");
     let [builder, ours] = figures(&page);
@@ -231,6 +261,8 @@ fn of_a_large_block_the_columns_around_the_first_difference_are_drawn() {
         );
         assert!(!figure.contains("read 135<") && !figure.contains("read 143<"));
     }
+    // the columns 698 to 701, of which 699 and 700 have an entry
+    holds(ours, &["<tr class=\"margin\"><th>margin<td class=\"out\"><td>0<td>9<td>9<td>0<td>"]);
     holds(builder, &["<tr><th>read 140<td class=\"out\"><td><td><td class=\"l0 wrong\">0<small>:9</small><i>≠</i>"]);
     holds(builder, &["1 entry disagrees, weight 9."]);
     holds(ours, &["No entry disagrees."]);

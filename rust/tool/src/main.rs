@@ -22,7 +22,7 @@ use words::Words;
 pub const VERSION: &str = concat!("velejume ", env!("CARGO_PKG_VERSION"));
 
 const HELP: &str = "\
-usage: velejume phase [--all-het] [--answer] BLOCK..
+usage: velejume phase [--all-het | --margins] [--answer] BLOCK..
        velejume judge BLOCK ANSWER
        velejume judge FOLDER [--report PAGE.html] [--tsv FILE] [--part I/N]
        velejume answers FOLDER [--all-het]

@@ -10,7 +10,7 @@ use velejume::{Answer, Refusal};
 pub const COMMAND: Command = Command {
     name: "phase",
     help: "\
-usage: velejume phase [--all-het] [--answer] BLOCK..
+usage: velejume phase [--all-het | --margins] [--answer] BLOCK..
 
 Divides the reads of each fragment block at the least cost and prints five
 lines: cost, flips, the side of each read, and the haplotypes of side 0 and
@@ -21,6 +21,9 @@ NUMBER at SECOND' and the reason.
   --all-het  for haplotypes that differ at every column: a column is written 0
              and 1 or 1 and 0, whichever costs less, and '-' in both where they
              cost the same
+  --margins  also print how sure each letter is, in two lines more, margin1 and
+             margin2: what the other letter would cost more at each column, 0
+             where there is no letter
   --answer   also write the answer blocks: NAME.answer beside NAME.block; an
              answer that is there is kept
 
@@ -28,7 +31,7 @@ The exit status is 0 if every block is accepted; 1 if one is refused, or
 another answer is there; 2 if a block cannot be read, an answer cannot be
 written, or this usage is not kept.
 ",
-    options: &[("--all-het", None), ("--answer", None)],
+    options: &[("--all-het", None), ("--margins", None), ("--answer", None)],
     run,
 };
 
@@ -42,8 +45,28 @@ struct Phased {
     status: Status,
 }
 
-/// A call that phases.
-type Phase = fn(&[u8]) -> Result<Answer, Refusal>;
+/// A call that phases: the answer, and what is printed of it.
+type Phase = fn(&[u8]) -> Result<(Answer, String), Refusal>;
+
+/// An answer that is printed as it is.
+fn printed(answer: Answer) -> (Answer, String) {
+    let lines = answer.to_string();
+    (answer, lines)
+}
+
+/// The call that the options ask for.
+fn call(words: &Words) -> Result<Phase, Fault> {
+    match (words.has("--all-het"), words.has("--margins")) {
+        (false, false) => Ok(|block| velejume::phase(block).map(printed)),
+        (true, false) => Ok(|block| velejume::phase_heterozygous(block).map(printed)),
+        (false, true) => Ok(|block| {
+            let sure = velejume::phase_margins(block)?;
+            let lines = sure.to_string();
+            Ok((sure.answer, lines))
+        }),
+        (true, true) => Err(Fault::Usage("--margins does not go with --all-het".to_string())),
+    }
+}
 
 fn phased(path: &Path, phase: Phase, answers: bool) -> Phased {
     let block = match read_block(path) {
@@ -53,8 +76,8 @@ fn phased(path: &Path, phase: Phase, answers: bool) -> Phased {
             return Phased { printed: String::new(), said, status: Status::Failed };
         }
     };
-    let answer = match phase(&block) {
-        Ok(answer) => answer,
+    let (answer, printed) = match phase(&block) {
+        Ok(answered) => answered,
         Err(refusal) => {
             let printed = format!("{}\n", Outcome::Refused(refusal));
             return Phased { printed, said: None, status: Status::Found };
@@ -66,7 +89,7 @@ fn phased(path: &Path, phase: Phase, answers: bool) -> Phased {
         Some(corpus::Made::Other { .. }) => Status::Found,
         Some(_) => Status::Failed,
     };
-    Phased { printed: answer.to_string(), said: made.map(|made| at(path, made)), status }
+    Phased { printed, said: made.map(|made| at(path, made)), status }
 }
 
 /// Prints what came of some blocks, with their names if there are several; says whether anyone still reads.
@@ -83,8 +106,7 @@ fn shown(paths: &[PathBuf], phased: &[Phased], named: bool) -> Result<bool, Faul
 }
 
 fn run(words: &Words) -> Result<Status, Fault> {
-    let (paths, answers) = (words.rest(), words.has("--answer"));
-    let phase = if words.has("--all-het") { velejume::phase_heterozygous } else { velejume::phase };
+    let (paths, answers, phase) = (words.rest(), words.has("--answer"), call(words)?);
     if paths.is_empty() {
         return Err(Fault::Usage("no block is given".to_string()));
     }

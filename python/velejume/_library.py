@@ -32,16 +32,17 @@ def load(path: str) -> ctypes.CDLL:
     """The shared object with the types of its functions, as velejume.h has them."""
     try:
         library = ctypes.CDLL(path)
-        phase, heterozygous = library.velejume_phase, library.velejume_phase_heterozygous
+        phase, heterozygous, margins = library.velejume_phase, library.velejume_phase_heterozygous, library.velejume_phase_margins
         judge, convert = library.velejume_judge, library.velejume_convert
     except (OSError, AttributeError) as fault:
         raise ImportError(f"{path} is no velejume library for this machine: {fault}", path=path) from fault
     data, size = ctypes.c_char_p, ctypes.c_size_t
     entries, room, number = ctypes.POINTER(ctypes.c_uint32), ctypes.POINTER(ctypes.c_uint8), ctypes.POINTER(ctypes.c_uint32)
     phase.argtypes = heterozygous.argtypes = [data, size, entries, size, room, size, number]
+    margins.argtypes = [data, size, entries, size, room, size, entries, size, number]
     judge.argtypes = [data, size, data, size, entries, size, number]
     convert.argtypes = [data, size, room, size, number]
-    phase.restype = heterozygous.restype = judge.restype = convert.restype = ctypes.c_uint32
+    phase.restype = heterozygous.restype = margins.restype = judge.restype = convert.restype = ctypes.c_uint32
     return library
 
 

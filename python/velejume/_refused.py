@@ -16,13 +16,14 @@ _WORDS = {
     9: "column {second} has more than 12 active reads",
     10: "the work room is below {second} entries",
     11: "the output is below {second} bytes",
+    13: "the margin room is below {second} numbers",
     38: "read {second}: no cells in version 2",
     39: "the output is below the {second} bytes of the converted block",
 }
 
 
 class Refused(ValueError):
-    """A block is refused. `number` is the refusal's, 1 to 11, 38 or 39, and `second` its second number: a read, a column or a size, 0 where there is none.
+    """A block is refused. `number` is the refusal's, 1 to 11, 13, 38 or 39, and `second` its second number: a read, a column or a size, 0 where there is none.
 
     >>> import velejume
     >>> velejume.phase(b"no block")

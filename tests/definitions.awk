@@ -1,5 +1,6 @@
 # Turns the vectors into equations of antt. In phase.txt a case is four lines and a blank one: name, block in hex, the output before a tie was no letter, the
-# output. In solve.txt a case is a line: what is lent, both numbers, what both rooms hold afterwards. In convert.txt it is one too, with one room.
+# output. In solve.txt a case is a line: what is lent, both numbers, what the rooms hold afterwards. Those of the general mode are calls with margins: that a
+# call without them is the same but for 13 is a theorem. In convert.txt a case is a line too, with one room.
 function value(s,   i, x) {
   x = 0
   for (i = 1; i <= length(s); i++) x = x * 16 + index("0123456789abcdef", tolower(substr(s, i, 1))) - 1
@@ -21,6 +22,18 @@ function numbers(s) {
   gsub(",", " ∷ ", s)
   return "(" s " ∷ [])"
 }
+# one call that phases as an equation, with its run of margins where it has one
+function phased(called, given, got, margins,   lent, held) {
+  lent = sprintf("%s (replicate %s 2779096485) (replicate %s 165)", bytes(given[4] == "." ? "" : given[4]), given[6], given[8])
+  held = sprintf("work = %s; out = %s", numbers(got[4]), bytes(got[6] == "." ? "" : got[6]))
+  if (margins) {
+    lent = sprintf("%s (replicate %s 2779096485)", lent, given[10])
+    held = sprintf("%s; margins = %s", held, numbers(got[8]))
+  }
+  printf "\nvector-%d : %s %s\n", ++made, called, lent
+  printf "    ≡ record { number = %s; second = %s; %s }\n", got[1], got[2], held
+  printf "unfolding opened\nvector-%d = refl\n", made
+}
 # whether all divisions of so many reads can be gone through
 function few(n, m) { return 2 ^ n * (n + 1) * m <= 3000 }
 BEGIN {
@@ -32,7 +45,8 @@ BEGIN {
   print "use Rattle.meaning.specs.Letters.{general, heterozygous}"
   print "use Rattle.meaning.specs.Answer.{answer, answerBytes}"
   print "use Rattle.meaning.specs.Refusals.{Numbers, passed, refusal}"
-  print "use Rattle.meaning.specs.Call.{call, callWith}"
+  print "use Rattle.meaning.specs.Call.{callWith}"
+  print "use Rattle.meaning.specs.Margins.{marginCall}"
   print "use Rattle.meaning.specs.Convert.{converting}"
   print "use lib.ListN.{replicate}"
   print "use Rattle.meaning.specs.Opened.{opened}"
@@ -44,10 +58,8 @@ BEGIN {
   split(half[2], got, /[ =]/)
   block = given[4]
   if (length(block) > 1200 || (got[1] == 0 && !few(value(substr(block, 15, 4)), value(substr(block, 11, 4))))) next
-  called = given[2] == "het" ? "callWith heterozygous latest" : "call"
-  printf "\nvector-%d : %s %s (replicate %s 2779096485) (replicate %s 165)\n", ++made, called, bytes(block == "." ? "" : block), given[6], given[8]
-  printf "    ≡ record { number = %s; second = %s; work = %s; out = %s }\n", got[1], got[2], numbers(got[4]), bytes(got[6] == "." ? "" : got[6])
-  printf "unfolding opened\nvector-%d = refl\n", made
+  if (given[2] == "het") phased("callWith heterozygous latest", given, got, 0)
+  else phased("marginCall", given, got, 1)
   next
 }
 /^block=/ {

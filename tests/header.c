@@ -1,5 +1,6 @@
-/* What velejume.h says of lengths, versions and modes: NULL with length 0 stands for each room, alone and together with others, both versions
-   of a matrix get the same answer in either mode, one is converted into the other, and the constants are the limits of the library. */
+/* What velejume.h says of lengths, versions, modes and margins: NULL with length 0 stands for each room, alone and together with others, both versions
+   of a matrix get the same answer in either mode, with the same margins, one is converted into the other, and the constants are the limits of the
+   library. */
 #include <stdio.h>
 #include <string.h>
 #include <velejume.h>
@@ -25,10 +26,11 @@ static const uint8_t small[] = {1, 0, 0, 0, 32, 0, 2, 0, 4, 0, 4, 0, 0, 0, 5, 0,
                                 1, 3, 0, 2, 0, 6, 0, 0, 1, 6, 1, 1, 0, 4, 0, 1, 0, 2};
 static const uint8_t wide[] = {2, 0, 0, 0, 38, 0, 2, 0, 4, 0, 5, 0, 0, 0, 0, 5, 0, 8, 0, 0, 1, 0,
                                3, 0, 0, 2, 0, 8, 0, 0, 1, 0, 6, 1, 0, 1, 0, 5, 0, 1, 0, 0, 2}; /* the same in version 2 */
-enum { BLOCK = sizeof small, ENTRIES = 8, BYTES = 25 };
+enum { BLOCK = sizeof small, ENTRIES = 8, BYTES = 25, MARGINS = 4 };
 static const uint8_t answers[MODES][BYTES] = {{2, 0, 0, 0, 20, 0, 0, 0, 1, 0, 0, 0, 1, 0, 4, 0, 2, 1, 0, 0, 0, 1, 0, 0, 2},
                                               {2, 0, 0, 0, 20, 0, 0, 0, 1, 0, 0, 0, 1, 0, 4, 0, 2, 1, 0, 0, 0, 1, 0, 0, 1}};
 static const uint32_t tables[MODES][ENTRIES] = {{5, 3, 0, 5, 1, 3, 1, 4}, {5, 3, 0, 6, 1, 3, 2, 5}};
+static const uint32_t sure[MARGINS] = {9, 3, 5, 0};
 
 static void empty_rooms_of_phase(phasing *phase) {
   uint32_t work[ENTRIES], number, second;
@@ -45,10 +47,27 @@ static void empty_rooms_of_phase(phasing *phase) {
   }
 }
 
+static void empty_rooms_of_phase_margins(void) {
+  uint32_t work[ENTRIES], margins[MARGINS], number, second;
+  uint8_t out[BYTES];
+  for (int empty = 0; empty < 16; empty++) {
+    int no_block = empty & 1, no_work = empty & 2, no_out = empty & 4, no_margins = empty & 8;
+    size_t block_len = no_block ? 0 : BLOCK, work_len = no_work ? 0 : ENTRIES, out_len = no_out ? 0 : BYTES, margins_len = no_margins ? 0 : MARGINS;
+    uint32_t refusal = no_block ? 1 : no_work ? 10 : no_out ? 11 : no_margins ? 13 : 0;
+    uint32_t beside = no_block ? 0 : no_work ? ENTRIES : no_out ? BYTES : no_margins ? MARGINS : 1;
+    number = velejume_phase_margins(no_block ? NULL : small, block_len, no_work ? NULL : work, work_len, no_out ? NULL : out, out_len,
+                                    no_margins ? NULL : margins, margins_len, &second);
+    expect("phase_margins, NULL", refusal, beside, number, second);
+    number = velejume_phase_margins(small, block_len, work, work_len, out, out_len, margins, margins_len, &second);
+    expect("phase_margins, length 0", refusal, beside, number, second);
+  }
+}
+
 static void empty_rooms(void) {
   const uint8_t *answer = answers[0];
   uint32_t work[ENTRIES], number, second;
   for (int mode = 0; mode < MODES; mode++) empty_rooms_of_phase(phase_in[mode]);
+  empty_rooms_of_phase_margins();
   for (int empty = 0; empty < 8; empty++) {
     int no_block = empty & 1, no_answer = empty & 2, no_work = empty & 4;
     size_t block_len = no_block ? 0 : BLOCK, answer_len = no_answer ? 0 : BYTES, work_len = no_work ? 0 : ENTRIES;
@@ -88,6 +107,22 @@ static void versions(void) {
     /* a letter where that side has no entry is no answer of the general mode */
     number = velejume_judge(wide, sizeof wide, answers[mode], BYTES, work[1], ENTRIES, &second);
     expect("judge, version 2", mode == 0 ? 57 : 56, 0, number, second);
+  }
+}
+
+/* a run of one number too few, and one of one too many, the last of which is kept */
+static void margins(void) {
+  static const struct { const uint8_t *block; size_t size; } blocks[] = {{small, sizeof small}, {wide, sizeof wide}};
+  for (int of = 0; of < 2; of++) {
+    uint32_t work[ENTRIES] = {77}, run[MARGINS + 1] = {77, 77, 77, 77, 77}, number, second;
+    uint8_t out[BYTES] = {77};
+    number = velejume_phase_margins(blocks[of].block, blocks[of].size, work, ENTRIES, out, BYTES, run, MARGINS - 1, &second);
+    expect("a number too few", 13, MARGINS, number, second);
+    expect("nothing is written", 77 + 77, 77, work[0] + out[0], run[0]);
+    number = velejume_phase_margins(blocks[of].block, blocks[of].size, work, ENTRIES, out, BYTES, run, MARGINS + 1, &second);
+    expect("a number too many", 0, 1, number, second);
+    expect("the margins", 0, 77, (uint32_t)memcmp(run, sure, sizeof sure), run[MARGINS]);
+    expect("the table and the answer beside", 0, 0, (uint32_t)memcmp(work, tables[0], sizeof work), (uint32_t)memcmp(out, answers[0], BYTES));
   }
 }
 
@@ -184,14 +219,21 @@ static void constants(void) {
   if (version == 2) expect("into the largest block", 0, 0, (uint32_t)memcmp(converted, block, size), 0);
 }
 
-/* All entries are zeros at the heaviest weight, and an answer has ones for all of them: its cost is the weight of all entries. */
-static void largest_cost(void) {
-  enum { COLUMNS = VELEJUME_MOST_COLUMNS, READS = VELEJUME_MOST_ACTIVE, LENGTH = 17 + READS + 2 * COLUMNS };
-  static uint8_t stated[LENGTH];
-  uint32_t cost = VELEJUME_LARGEST_COST, number, second;
+enum { COLUMNS = VELEJUME_MOST_COLUMNS, READS = VELEJUME_MOST_ACTIVE, LENGTH = 17 + READS + 2 * COLUMNS };
+
+/* a block of version 2 with as many columns and active reads as there can be, all entries zeros at the heaviest weight; its length */
+static size_t heaviest(void) {
   size_t size = build(COLUMNS, READS, COLUMNS);
   for (size_t read = 0; read < READS; read++)
     for (size_t column = 0; column < COLUMNS; column++) put(9 + read * (4 + 3 * COLUMNS) + 5 + 3 * column, 65535);
+  return size;
+}
+
+/* An answer has ones for all entries: its cost is the weight of all. */
+static void largest_cost(void) {
+  static uint8_t stated[LENGTH];
+  uint32_t cost = VELEJUME_LARGEST_COST, number, second;
+  size_t size = heaviest();
   memset(stated, 0, sizeof stated);
   stated[0] = 2;
   stated[3] = (uint8_t)((LENGTH - 5) >> 8), stated[4] = (uint8_t)(LENGTH - 5);
@@ -207,13 +249,28 @@ static void largest_cost(void) {
   expect("one more than it", 54, 0, number, second);
 }
 
+static void largest_margin(void) {
+  static uint32_t run[VELEJUME_MOST_MARGINS];
+  uint32_t number, second;
+  size_t size = heaviest();
+  number = velejume_phase_margins(block, size, work, VELEJUME_MOST_ENTRIES, out, LENGTH, run, VELEJUME_MOST_MARGINS - 1, &second);
+  expect("the most margins less one", 13, VELEJUME_MOST_MARGINS, number, second);
+  number = velejume_phase_margins(block, size, work, VELEJUME_MOST_ENTRIES, out, LENGTH, run, VELEJUME_MOST_MARGINS, &second);
+  expect("the most margins", 0, 0, number, second);
+  uint32_t right = 0;
+  for (size_t column = 0; column < COLUMNS; column++) right += run[column] == VELEJUME_LARGEST_MARGIN && run[COLUMNS + column] == 0;
+  expect("the largest margins", COLUMNS, 0, right, 0);
+}
+
 int main(void) {
   empty_rooms();
   versions();
+  margins();
   conversion();
   for (version = 1; version <= 2; version++) constants();
   version = 2;
   largest_cost();
+  largest_margin();
   printf("%d passed, %d failed\n", passed, failed);
   return failed != 0;
 }

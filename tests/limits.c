@@ -1,20 +1,23 @@
-/* Both sides of every limit in both versions and both modes, through the C names: numbers, what the rooms hold, and a guard behind each room. The
-   largest block, 1,024 columns under 12 reads, is held against plain search through its 2,048 divisions: every table entry too. */
+/* Both sides of every limit in both versions, both modes and with margins, through the C names: numbers, what the rooms hold, and a guard behind each
+   room. The largest block, 1,024 columns under 12 reads, is held against plain search through its 2,048 divisions: every table entry and margin too. */
 typedef unsigned char u8;
 typedef unsigned int u32;
 typedef unsigned long usize;
 
 typedef u32 phasing(const u8 *block, usize block_len, u32 *work, usize work_len, u8 *out, usize out_len, u32 *second);
 phasing velejume_phase, velejume_phase_heterozygous;
+u32 velejume_phase_margins(const u8 *block, usize block_len, u32 *work, usize work_len, u8 *out, usize out_len, u32 *margins, usize margins_len,
+                           u32 *second);
 u32 velejume_convert(const u8 *block, usize block_len, u8 *out, usize out_len, u32 *second);
 int printf(const char *format, ...);
 
-enum { GUARD = 16, MOST_WORK = 1024 * 2048, MOST_OUT = 17 + 1024 + 2048, MOST_BLOCK = 400000 };
+enum { GUARD = 16, MOST_WORK = 1024 * 2048, MOST_OUT = 17 + 1024 + 2048, MOST_MARGINS = 2 * 1024, MOST_BLOCK = 400000 };
 
 static u8 block[MOST_BLOCK];
 static usize size;
 static u32 work[MOST_WORK + GUARD];
 static u8 out[MOST_OUT + GUARD];
+static u32 margins[MOST_MARGINS + GUARD];
 static u8 wide[MOST_BLOCK + GUARD];
 static int passed, failed;
 
@@ -81,22 +84,41 @@ static void finish(void) {
   block[4] = (u8)length;
 }
 
-/* whether the haplotypes are to differ at every column */
-static int heterozygous;
+/* which call phases: in the general mode, for haplotypes that differ at every column, or in the general mode with margins */
+static enum { GENERAL, HETEROZYGOUS, WITH_MARGINS } mode;
 
-/* one call with rooms of these sizes: the numbers, and that a refusal and the guards leave everything as it was */
-static void call(usize work_len, usize out_len, u32 number, u32 second, const char *what) {
+static u32 phased(usize work_len, usize out_len, usize run_len, u32 *second) {
+  if (mode == WITH_MARGINS) return velejume_phase_margins(block, size, work, work_len, out, out_len, margins, run_len, second);
+  return (mode == GENERAL ? velejume_phase : velejume_phase_heterozygous)(block, size, work, work_len, out, out_len, second);
+}
+
+/* one call with rooms of these sizes: the numbers, and that a refusal and the guards leave everything as it was, and so what lies beyond the margins */
+static void call_with(usize work_len, usize out_len, usize run_len, u32 number, u32 second, const char *what) {
   for (usize i = 0; i < work_len + GUARD; i++) work[i] = 7777;
   for (usize i = 0; i < out_len + GUARD; i++) out[i] = 77;
+  for (usize i = 0; i < run_len + GUARD; i++) margins[i] = 7777;
   u32 got = 99999;
-  phasing *phase = heterozygous ? velejume_phase_heterozygous : velejume_phase;
-  u32 answered = phase(block, size, work, work_len, out, out_len, &got);
+  u32 answered = phased(work_len, out_len, run_len, &got);
+  usize written = number || mode != WITH_MARGINS ? 0 : 2 * (block[5] * 256u + block[6]);
   int kept = 1;
+  for (usize i = written; i < run_len + GUARD; i++) kept &= margins[i] == 7777;
   for (usize i = number ? 0 : work_len; i < work_len + GUARD; i++) kept &= work[i] == 7777;
   for (usize i = number ? 0 : out_len; i < out_len + GUARD; i++) kept &= out[i] == 77;
   expect(answered == number, what);
   if (number) expect(got == second, what);
   expect(kept, what);
+}
+
+static void call(usize work_len, usize out_len, u32 number, u32 second, const char *what) {
+  call_with(work_len, out_len, MOST_MARGINS, number, second, what);
+}
+
+/* a block that is accepted in these rooms, with runs of just 2m numbers and one less */
+static void runs(usize work_len, usize out_len, u32 m, const char *what) {
+  if (mode != WITH_MARGINS) return;
+  call_with(work_len, out_len, 2 * m - 1, 13, 2 * m, what);
+  call_with(work_len, out_len, 0, 13, 2 * m, what);
+  call_with(work_len, out_len, 2 * m, 0, 0, what);
 }
 
 /* one converting with an output of this size: the numbers, and that a refusal and the guard leave everything as it was */
@@ -114,7 +136,31 @@ static u32 lesser(u32 a, u32 b) { return a < b ? a : b; }
 
 /* by the weights of entries, by side and letter */
 static u32 charge(u32 w[2][2]) {
-  return heterozygous ? lesser(w[0][1] + w[1][0], w[0][0] + w[1][1]) : lesser(w[0][0], w[0][1]) + lesser(w[1][0], w[1][1]);
+  return mode == HETEROZYGOUS ? lesser(w[0][1] + w[1][0], w[0][0] + w[1][1]) : lesser(w[0][0], w[0][1]) + lesser(w[1][0], w[1][1]);
+}
+
+/* the weights of the largest block's entries at a column, by side and letter, where read r but the first is on the side that digit r - 1 of k gives */
+static void weigh(u32 j, u32 k, u32 w[2][2]) {
+  w[0][0] = w[0][1] = w[1][0] = w[1][1] = 0;
+  for (u32 r = 0; r < 12; r++) {
+    usize cell = 9 + r * (4 + bytes * 1024) + 4 + bytes * j;
+    w[r ? k >> (r - 1) & 1 : 0][block[cell]] += weight_at(cell);
+  }
+}
+
+/* the margins of a division of the largest block: the distance of both sums of each side at each column */
+static void largest_margins(u32 k) {
+  if (mode != WITH_MARGINS) return;
+  int right = 1;
+  for (u32 j = 0; j < 1024; j++) {
+    u32 w[2][2];
+    weigh(j, k, w);
+    for (u32 side = 0; side < 2; side++) {
+      u32 less = lesser(w[side][0], w[side][1]);
+      right &= margins[side * 1024 + j] == w[side][0] + w[side][1] - 2 * less;
+    }
+  }
+  expect(right, "every margin of the largest block");
 }
 
 /* 12 reads over all columns: entry k of column j is the sum of charges to j of the one division that k stands for */
@@ -127,15 +173,13 @@ static void largest(void) {
   finish();
   call(MOST_WORK - 1, MOST_OUT, 10, MOST_WORK, "work one entry short");
   call(MOST_WORK, 17 + reads + 2 * m - 1, 11, 17 + reads + 2 * m, "output one byte short");
+  runs(MOST_WORK, 17 + reads + 2 * m, m, "the largest block, runs of margins");
   call(MOST_WORK, 17 + reads + 2 * m, 0, 0, "the largest block");
   int right = 1;
   for (u32 j = 0; j < m; j++)
     for (u32 k = 0; k < 2048; k++) {
-      u32 w[2][2] = {{0, 0}, {0, 0}};
-      for (u32 r = 0; r < reads; r++) {
-        usize cell = 9 + r * (4 + bytes * m) + 4 + bytes * j;
-        w[r ? k >> (r - 1) & 1 : 0][block[cell]] += weight_at(cell);
-      }
+      u32 w[2][2];
+      weigh(j, k, w);
       sums[k] += charge(w);
       right &= work[j * 2048 + k] == sums[k];
     }
@@ -158,6 +202,7 @@ static void largest(void) {
   int sides = out[17] == 0;
   for (u32 r = 1; r < reads; r++) sides &= out[17 + r] == (best >> (r - 1) & 1);
   expect(sides, "the largest sides");
+  largest_margins(best);
 }
 
 /* a read of one entry that is longer by 0 to 6 bytes, and a hole with a weight in each of its bytes */
@@ -244,6 +289,8 @@ static void limits(void) {
   call(1, 0, 11, 20, "no output");
   call(1, 19, 11, 20, "output one byte short of 20");
   call(1, 20, 0, 0, "output of just 20 bytes");
+  runs(1, 20, 1, "one column, runs of margins");
+  if (mode == WITH_MARGINS) call_with(1, 19, 0, 11, 20, "output one byte short of 20, and no run"), call_with(0, 19, 0, 10, 1, "no room at all");
   cells(ample);
   without_cells(ample);
   longest(ample);
@@ -252,7 +299,7 @@ static void limits(void) {
 }
 
 int main(void) {
-  for (heterozygous = 0; heterozygous < 2; heterozygous++) {
+  for (mode = GENERAL; mode <= WITH_MARGINS; mode++) {
     version = 1, bytes = 2, heaviest = 255, limits();
     version = 2, bytes = 3, heaviest = 65535, limits();
     begin(1, 0), finish();

@@ -1,6 +1,7 @@
 # Turns the vectors into cases of the program `phase`, four lines each: name, argument, block as octal escapes, what is printed. In phase.txt a case is four
-# lines and a blank one: name, block in hex, the output before a tie was no letter, the output; what is refused is refused with --all-het too. In solve.txt a
-# case is a line: what is lent, both numbers, what both rooms hold afterwards, first the answer block. 10 and 11 are of rooms that the program does not lend.
+# lines and a blank one: name, block in hex, the output before a tie was no letter, the output; what is refused is refused with --all-het and --margins too. In
+# solve.txt a case is a line: what is lent, both numbers, what the rooms hold afterwards: table, answer block, margins. 10, 11 and 13 are of rooms that the
+# program does not lend.
 function value(hex,   i, x) {
   x = 0
   for (i = 1; i <= length(hex); i++) x = x * 16 + index("0123456789abcdef", substr(hex, i, 1)) - 1
@@ -26,15 +27,25 @@ function lines(hex,   n, m, sides) {
   sides = n > 0 ? marks(hex, 17, n) : "none"
   return "cost " number(hex, 5, 4) " | flips " number(hex, 9, 4) " | sides " sides " | hap1 " marks(hex, 17 + n, m) " | hap2 " marks(hex, 17 + n + m, m)
 }
+# the margins of both haplotypes, from a list of 2m numbers and more
+function margins(list, m,   each, i, text) {
+  split(list, each, ",")
+  text = " | margin1"
+  for (i = 1; i <= 2 * m; i++) text = text (i == m + 1 ? " | margin2" : "") " " each[i]
+  return text
+}
 function put(name, argument, hex, printed) { print name "\n" argument "\n" octal(hex) "\n" printed }
 /^#/ { next }
 /^mode=/ {
   split($0, half, " -> ")
   split(half[1], given, /[ =]/)
   split(half[2], got, /[ =]/)
-  if (got[1] == 10 || got[1] == 11) next
-  argument = given[2] == "het" ? "--all-het" : ""
-  put("line " FNR " of solve.txt", argument, given[4] == "." ? "" : given[4], got[1] == 0 ? lines(got[6]) : "refused " got[1] " at " got[2])
+  if (got[1] == 10 || got[1] == 11 || got[1] == 13) next
+  name = "line " FNR " of solve.txt"
+  block = given[4] == "." ? "" : given[4]
+  printed = got[1] == 0 ? lines(got[6]) : "refused " got[1] " at " got[2]
+  put(name, given[2] == "het" ? "--all-het" : "", block, printed)
+  if (given[2] == "general") put(name, "--margins", block, printed (got[1] == 0 ? margins(got[8], number(got[6], 15, 2)) : ""))
   next
 }
 !begun && /^$/ { begun = 1; next }
@@ -42,5 +53,6 @@ begun {
   line[++k] = $0
   if (k == 4) put(line[1], "", line[2], line[4])
   if (k == 4 && line[4] ~ /^refused/) put(line[1], "--all-het", line[2], line[4])
+  if (k == 4 && line[4] ~ /^refused/) put(line[1], "--margins", line[2], line[4])
   k %= 5
 }

@@ -1,6 +1,6 @@
-/* Phasing in both modes against plain search: random blocks of up to 8 reads, solved here by trying every division, with no thought of
-   columns that follow from one another. Both numbers, every entry of the work room and every byte of the output are compared,
-   and guards behind both rooms. Blocks of both versions come gapless, in pairs, with holes, with ties, weight 0 and empty reads, which
+/* Phasing in both modes and with margins against plain search: random blocks of up to 8 reads, solved here by trying every division, with no thought of
+   columns that follow from one another. Both numbers, every entry of the work room, every byte of the output and every margin are compared,
+   and guards behind the rooms. Blocks of both versions come gapless, in pairs, with holes, with ties, weight 0 and empty reads, which
    version 2 refuses, and damaged. Each block is converted too, against a converter of its own. */
 typedef unsigned char u8;
 typedef unsigned int u32;
@@ -8,10 +8,12 @@ typedef unsigned long usize;
 
 typedef u32 phasing(const u8 *block, usize block_len, u32 *work, usize work_len, u8 *out, usize out_len, u32 *second);
 phasing velejume_phase, velejume_phase_heterozygous;
+u32 velejume_phase_margins(const u8 *block, usize block_len, u32 *work, usize work_len, u8 *out, usize out_len, u32 *margins, usize margins_len,
+                           u32 *second);
 u32 velejume_convert(const u8 *block, usize block_len, u8 *out, usize out_len, u32 *second);
 int printf(const char *format, ...);
 
-enum { COLUMNS = 7, READS = 8, CELLS = 16, GUARD = 8, WORK = 4096, OUT = 256, BLOCK = 1024 };
+enum { COLUMNS = 7, READS = 8, CELLS = 16, GUARD = 8, WORK = 4096, OUT = 256, RUN = 64, BLOCK = 1024 };
 
 /* the block and what it says */
 static u8 block[BLOCK];
@@ -27,6 +29,7 @@ static u32 table[WORK];
 static usize entries;
 static u8 answer[OUT];
 static usize length;
+static u32 margins[2 * COLUMNS];
 
 static unsigned long long state;
 static u32 next(u32 below) {
@@ -168,6 +171,7 @@ static void search(usize work_len, usize out_len) {
       int tie;
       u8 l = letter_of(w, s, &tie);
       answer[17 + n + s * m + j] = tie ? 2 : l;
+      margins[s * m + j] = w[s][0] < w[s][1] ? w[s][1] - w[s][0] : w[s][0] - w[s][1];
       for (u32 r = 0; r < n; r++) flips += (best >> r & 1) == s && letter_at(r, j) < 2 && letter_at(r, j) != l;
     }
   }
@@ -294,8 +298,23 @@ static int phases(usize work_len, usize out_len, int solvable, u32 i) {
   return 0;
 }
 
+/* the same with margins, in a run of this size, behind a search in the general mode */
+static int phases_with_margins(usize work_len, usize out_len, usize run_len, u32 i) {
+  static u32 work[WORK + GUARD], run[RUN + GUARD];
+  static u8 out[OUT + GUARD];
+  if (!number && run_len < 2 * m) refuse(13, 2 * m);
+  for (usize k = 0; k < work_len + GUARD; k++) work[k] = 5000 + (u32)k;
+  for (usize k = 0; k < out_len + GUARD; k++) out[k] = (u8)(100 + k);
+  for (usize k = 0; k < run_len + GUARD; k++) run[k] = 9000 + (u32)k;
+  u32 got = 0, given = velejume_phase_margins(block, size, work, work_len, out, out_len, run, run_len, &got);
+  int right = same(given, got, work, work_len, out, out_len);
+  for (usize k = 0; k < run_len + GUARD; k++) right &= run[k] == (!number && k < 2 * m ? margins[k] : 9000 + (u32)k);
+  if (!right) printf("search: case %u, margins: expected %u at %u, given %u at %u\n", i, number, second, given, got);
+  return right;
+}
+
 int main(void) {
-  u32 seen[2][39] = {{0}}, turned[40] = {0}, passed = 0, failed = 0, damaged = 0, blocks = 0, above = 0;
+  u32 seen[2][39] = {{0}}, turned[40] = {0}, passed = 0, failed = 0, damaged = 0, blocks = 0, above = 0, short_runs[2] = {0};
   state = 20150601;
   for (u32 i = 0; i < 16000; i++) {
     u32 version = 1 + i / 4 % 2;
@@ -305,13 +324,17 @@ int main(void) {
     int solvable = checked();
     if (solvable && (m > COLUMNS || n > READS)) continue;
     u32 costs[2];
-    for (heterozygous = 0; heterozygous < 2; heterozygous++) {
+    /* the general mode last: its search is the one with margins too */
+    for (heterozygous = 1; heterozygous >= 0; heterozygous--) {
       if (phases(work_len, out_len, solvable, i)) passed++;
       else failed++;
       costs[heterozygous] = second;
     }
     above += number == 0 && costs[0] < costs[1];
     seen[version - 1][number]++, blocks++;
+    if (phases_with_margins(work_len, out_len, next(3) ? RUN : next(2 * COLUMNS + 2), i)) passed++;
+    else failed++;
+    short_runs[version - 1] += number == 13;
     usize room = next(3) ? 2 * BLOCK : next(120);
     widen(room);
     if (converts(room)) {
@@ -331,6 +354,8 @@ int main(void) {
     if (!given[38] && version == 2) failed++, printf("search: number 38 was never given in version 2\n");
     printf("search: version %u, accepted %u, refused by 5, 38, 6, 7: %u, %u, %u, %u\n", version, given[0], given[5], given[38], given[6], given[7]);
   }
+  if (!short_runs[0] || !short_runs[1]) failed++, printf("search: number 13 was never given in one of the versions\n");
+  printf("search: %u and %u refused by 13\n", short_runs[0], short_runs[1]);
   if (!above) failed++, printf("search: no cost of the all-heterozygous mode was above the general one\n");
   printf("search: %u cost more in the all-heterozygous mode\n", above);
   printf("search: %u converted, %u refused by 2, %u by 39\n", turned[0], turned[2], turned[39]);

@@ -131,6 +131,15 @@ pub fn letter(cells: &Cells, sides: &Sides, n: usize, j: usize, side: u8, hetero
     if w1 < w0 { 1 } else { 2 }
 }
 
+// How far the two sums of a side are apart, each from the side's own entries.
+pub fn margin(cells: &Cells, sides: &Sides, n: usize, j: usize, side: u8) -> u32
+    requires { ⌜ (n ≤ 16) × (j < 1024) ⌝ }
+{
+    let w0 = letter_cost(cells, sides, n, j, side, 0, GENERAL);
+    let w1 = letter_cost(cells, sides, n, j, side, 1, GENERAL);
+    if w0 < w1 { w1 - w0 } else { w0 - w1 }
+}
+
 // The letter that flips are counted against: `-` is 1, but on side 1 of the all-heterozygous mode the complement of side 0's 1.
 fn counted(l: u8, side: u8, heterozygous: bool) -> u8 {
     if l < 2 {

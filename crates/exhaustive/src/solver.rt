@@ -1,8 +1,10 @@
-// The exhaustive solver, from the definitions of documents 01 and 02: refusals, table and answer block.
+// The exhaustive solver, from the definitions of documents 01 and 02: refusals, table, answer block and margins.
 ghost use Prim.Native.Nat.{_≤_};
+use crate::charge::GENERAL;
 use crate::charge::Sides;
 use crate::charge::flips;
 use crate::charge::letter;
+use crate::charge::margin;
 use crate::charge::sum;
 use crate::matrix::Cells;
 use crate::matrix::Columns;
@@ -131,6 +133,18 @@ fn put_letters(
     total
 }
 
+// The margins of haplotype 1, then those of haplotype 2.
+fn put_margins(cells: &Cells, sides: &Sides, n: usize, m: usize, margins: &mut Table)
+    requires { ⌜ (n ≤ 16) × (m ≤ 1024) ⌝ }
+{
+    let mut j: usize = 0;
+    while j < m {
+        margins[j] = margin(cells, sides, n, j, 0);
+        margins[m + j] = margin(cells, sides, n, j, 1);
+        j += 1;
+    }
+}
+
 // The sides by read number, into the answer block.
 fn put_sides(end: &Columns, sides: &Sides, n: usize, answer: &mut Output)
     requires { ⌜ n ≤ 16 ⌝ }
@@ -143,7 +157,7 @@ fn put_sides(end: &Columns, sides: &Sides, n: usize, answer: &mut Output)
     }
 }
 
-// The answer block of a division, which is by rows; `end` is by reads.
+// The answer block and the margins of a division, which is by rows; `end` is by reads.
 fn put_answer(
     end: &Columns,
     cells: &Cells,
@@ -152,17 +166,19 @@ fn put_answer(
     best: Best,
     heterozygous: bool,
     answer: &mut Output,
+    margins: &mut Table,
 )
     requires { ⌜ (n ≤ 16) × (m ≤ 1024) ⌝ }
 {
     let mut sides = [0u8; 16];
     divide(best.place, n, &mut sides);
     let flips = put_letters(cells, &sides, n, m, heterozygous, answer);
+    put_margins(cells, &sides, n, m, margins);
     put_sides(end, &sides, n, answer);
     put_head(answer, long(best.cost), long(flips), n, m);
 }
 
-// The table and the answer block of a block that is accepted; and its cost.
+// The table, the answer block and the margins of a block that is accepted; and its cost.
 fn accept(
     block: &[u8],
     n: usize,
@@ -171,6 +187,7 @@ fn accept(
     heterozygous: bool,
     table: &mut Table,
     answer: &mut Output,
+    margins: &mut Table,
 ) -> u32
     requires { ⌜ (n ≤ 16) × (m ≤ 1024) ⌝ }
 {
@@ -190,8 +207,38 @@ fn accept(
         &mut cells,
     );
     let best = walk(&row_first, &row_end, &cells, n, m, t, heterozygous, table);
-    put_answer(&end, &cells, n, m, best, heterozygous, answer);
+    put_answer(&end, &cells, n, m, best, heterozygous, answer, margins);
     best.cost
+}
+
+// The number of the first check from 1 to 11 that applies, or 0, for a block that was measured.
+fn refused(s: Sizes, rooms: Rooms) -> Numbers {
+    if s.number > 0 {
+        return given(s.number, s.second);
+    }
+    if rooms.work < s.work {
+        return given(10, s.work);
+    }
+    if rooms.out < s.out {
+        return given(11, s.out);
+    }
+    given(0, 0)
+}
+
+// Both numbers of a block that is accepted, its table with zeros, its answer block and its margins.
+fn accepted(
+    block: &[u8],
+    s: Sizes,
+    heterozygous: bool,
+    table: &mut Table,
+    answer: &mut Output,
+    margins: &mut Table,
+) -> Numbers
+    requires { ⌜ (s .m ≤ 1024) × (s .n ≤ 16) ⌝ }
+{
+    let cost = accept(block, s.n, s.m, s.t, heterozygous, table, answer, margins);
+    clear_rest(table, s.work);
+    given(0, long(cost))
 }
 
 // Solves a block in a mode, for rooms of these sizes: both numbers, and on acceptance the table and the answer block from the front of
@@ -204,16 +251,31 @@ pub fn solve(
     answer: &mut Output,
 ) -> Numbers {
     let s = measure(block);
-    if s.number > 0 {
-        return given(s.number, s.second);
+    let r = refused(s, rooms);
+    if r.number > 0 {
+        return r;
     }
-    if rooms.work < s.work {
-        return given(10, s.work);
+    let mut spare = [0u32; 16385];
+    accepted(block, s, heterozygous, table, answer, &mut spare)
+}
+
+// The same in the general mode with a run of so many numbers, which gets the margins from its front.
+pub fn solve_margins(
+    block: &[u8],
+    rooms: Rooms,
+    run: usize,
+    table: &mut Table,
+    answer: &mut Output,
+    margins: &mut Table,
+) -> Numbers {
+    let s = measure(block);
+    let r = refused(s, rooms);
+    if r.number > 0 {
+        return r;
     }
-    if rooms.out < s.out {
-        return given(11, s.out);
+    let need = 2 * s.m;
+    if run < need {
+        return given(13, need);
     }
-    let cost = accept(block, s.n, s.m, s.t, heterozygous, table, answer);
-    clear_rest(table, s.work);
-    given(0, long(cost))
+    accepted(block, s, GENERAL, table, answer, margins)
 }

@@ -17,13 +17,8 @@ use fields::long;
 use fields::word;
 use report::lines::Tally;
 use report::lines::count;
-use report::same::same_bytes;
+use report::same::same_call;
 use report::same::same_numbers;
-use report::same::same_work;
-
-fn same_output(out: &Output, expected: &Output, tally: &mut Tally) -> bool {
-    same_bytes(out, expected, tally)
-}
 
 // The call of a mode.
 fn called(block: &[u8], heterozygous: bool, work: &mut [u32], out: &mut [u8]) -> velejume::Numbers {
@@ -54,11 +49,7 @@ fn against(
     let r = called(block, heterozygous, &mut work[..w], &mut out[..o]);
     let found = given(long(r.number), long(r.second));
     count(tally, found.number);
-    if same_numbers(found, expected, tally) {
-        if same_work(&work, table, tally) {
-            same_output(&out, answer, tally);
-        }
-    }
+    same_call(found, expected, &work, table, &out, answer, tally);
 }
 
 // A block against the exhaustive solver.

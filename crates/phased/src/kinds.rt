@@ -6,29 +6,10 @@ use cases::kinds::Kind;
 use cases::kinds::name;
 use cases::kinds::numbered;
 use cases::kinds::put_block;
-use cases::random::below;
-use exhaustive::rooms::Rooms;
-use exhaustive::rooms::ample;
-use exhaustive::rooms::lent;
-use exhaustive::rooms::less;
-use exhaustive::solver::measure;
 use fields::Bytes;
+use report::chance::some_rooms;
 use report::lines::Tally;
 use report::lines::line_in;
-
-// Rooms that are ample, exact, one short or of any size.
-fn some_rooms(block: &[u8], state: &mut u32) -> Rooms
-    ensures { λ r. ⌜ (r .work ≤ 16384) × (r .out ≤ 4096) ⌝ }
-{
-    let s = measure(block);
-    match below(state, 8) {
-        0 => lent(s.work, s.out),
-        1 => lent(less(s.work), s.out),
-        2 => lent(s.work, less(s.out)),
-        3 => lent(below(state, 600), below(state, 60)),
-        _ => ample(),
-    }
-}
 
 // A block in rooms that chance picks.
 fn tried(b: Bytes, size: usize, heterozygous: bool, state: &mut u32, tally: &mut Tally)

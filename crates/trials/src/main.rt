@@ -2,6 +2,7 @@
 fn main() {
     let mut all = [0usize; 64];
     phased::run(&mut all);
+    margined::run(&mut all);
     converted::run(&mut all);
     judged::run(&mut all);
     report::lines::end(&all);

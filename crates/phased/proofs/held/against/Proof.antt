@@ -43,23 +43,11 @@ given-requires c κs = search needs
 count-requires : tie.Need-count-requires
 count-requires c κs = search needs
 
-same-numbers-requires : tie.Need-same-numbers-requires
-same-numbers-requires c κs = search needs
-
-same-work-requires : tie.Need-same-work-requires
-same-work-requires c κs = search needs
-
-same-output-requires : tie.Need-same-output-requires
-same-output-requires c κs = search needs
+same-call-requires : tie.Need-same-call-requires
+same-call-requires c κs = search needs
 
 returns : tie.Need-returns
 returns c = search needs
-
-returns-2 : tie.Need-returns-2
-returns-2 c = search needs
-
-returns-3 : tie.Need-returns-3
-returns-3 c = search needs
 
 pub against-spec : {M : Type 1} → statement M
 against-spec =
@@ -78,9 +66,5 @@ against-spec =
     long-requires-2
     given-requires
     count-requires
-    same-numbers-requires
-    same-work-requires
-    same-output-requires
-    returns
-    returns-2
-    returns-3)
+    same-call-requires
+    returns)

@@ -1,3 +1,5 @@
 // Document 02 for the trials: answers that a builder may give, and the verdicts on them from the exhaustive solver.
+#![tactic(auto)]
+
 pub mod builders;
 pub mod verdicts;

@@ -1,4 +1,6 @@
 // The way back through one column: the reads that close there get the first sides in closing order that have the least entry.
+#![tactic(auto)]
+
 ghost use Rattle.std.specs.Prelude.{◌≡◌, not, ℕ, ◌+◌, ◌-◌, ◌*◌, ◌/◌, ◌^◌, ◌≤◌, ◌<◌, length, get_or, take, eqb};
 ghost use Rattle.meaning.specs.Numbers.{bit, sum_to};
 ghost use Rattle.meaning.specs.Active.{used};

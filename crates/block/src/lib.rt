@@ -1,4 +1,6 @@
 // A fragment block: the checks 1 to 8 and 38, from its header to the last of its reads.
+#![tactic(auto)]
+
 ghost use Rattle.std.specs.Prelude.{◌≡◌};
 ghost use Rattle.meaning.specs.Block.{latest};
 ghost use Rattle.meaning.specs.Refusals.{passed, header_refusal, block_refusal};

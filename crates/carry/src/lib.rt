@@ -1,4 +1,6 @@
 // What a column hands over to the next: for each class of its entries, those with one index on the reads that go on, the least.
+#![tactic(auto)]
+
 ghost use Rattle.std.specs.Prelude.{◌≡◌, ℕ, ◌+◌, ◌*◌, ◌/◌, ◌≤◌, ◌<◌, min, length, get_or};
 ghost use Rattle.meaning.specs.Rule.{least_at};
 

@@ -1,4 +1,6 @@
 // Blocks to try a solver on: document 01's examples, reads that are all alike, blocks of a shape by chance, and damaged ones.
+#![tactic(auto)]
+
 pub mod alike;
 pub mod damage;
 pub mod examples;

@@ -1,4 +1,6 @@
 // What a column's active reads bring to its pass.
+#![tactic(auto)]
+
 ghost use Rattle.std.specs.Prelude.{◌≡◌, false, [], ℕ, ◌+◌, ◌-◌, ◌*◌, ◌≤◌, ◌<◌, length, get_or};
 ghost use Rattle.meaning.specs.Block.{cell_at};
 ghost use Rattle.meaning.specs.Active.{read, at};

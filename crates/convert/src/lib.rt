@@ -1,4 +1,6 @@
 // The converter: a version 1 block, written as version 2 without its reads that have no cells.
+#![tactic(auto)]
+
 ghost use Rattle.std.specs.Prelude.{◌≡◌, ◌∷◌, ◌+◌, ◌*◌, ◌-◌, ◌/◌, ◌≤◌, length, drop};
 ghost use Rattle.meaning.specs.Numbers.{run, word, bytes_of};
 ghost use Rattle.meaning.specs.Block.{cell_at, read_of};

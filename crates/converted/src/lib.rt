@@ -1,4 +1,6 @@
 // The trials of `velejume::convert`: blocks whose outcome is stated, and generated blocks against a converter from document 02's words.
+#![tactic(auto)]
+
 mod held;
 mod kinds;
 mod limits;

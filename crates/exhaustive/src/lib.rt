@@ -1,5 +1,7 @@
 // A solver of documents 01 and 02 by plain search, straight from their definitions, which shares nothing with the column method; and a
 // converter from document 02's words, which shares nothing with the library's.
+#![tactic(auto)]
+
 pub mod charge;
 pub mod converter;
 pub mod matrix;

@@ -1,4 +1,6 @@
 // The bytes of a block: read from anywhere, written one after the other.
+#![tactic(auto)]
+
 ghost use Rattle.std.specs.Prelude.{◌≤◌};
 
 // Room for a block.

@@ -1,5 +1,7 @@
 // What the programs do with files, standard input and standard output. A call that fails is said on standard error, in one line that
 // begins with the program's name. No contract can say what is read or written.
+#![tactic(auto)]
+
 ghost use Rattle.std.specs.Prelude.{◌<◌, ◌^◌, length};
 ghost use Rattle.libc.specs.Io.{Moved};
 

@@ -1,4 +1,6 @@
 // An index folded onto the shared reads: what the masks are made of by which each read turns it.
+#![tactic(auto)]
+
 ghost use Rattle.std.specs.Prelude.{◌≡◌, cond, ◌*◌, ◌≤◌, ◌<◌, ltb, eqb};
 ghost use Rattle.meaning.specs.Numbers.{bit};
 ghost use Rattle.fold.specs.Turn.{digit_of};

@@ -1,4 +1,6 @@
 // A fragment block's header: the checks 1 to 4, and the shape of the reads behind it.
+#![tactic(auto)]
+
 ghost use Rattle.std.specs.Prelude.{◌≡◌};
 ghost use Rattle.meaning.specs.Block.{latest};
 ghost use Rattle.meaning.specs.Refusals.{header_refusal};

@@ -1,6 +1,8 @@
 // `judge BLOCK ANSWER` reads a fragment block and a builder's answer from the two files that it is given and prints the verdict's two
 // lines, or one that says why it is refused.
 // Prints the text for this block and this answer.
+#![tactic(auto)]
+
 fn print_verdict(block: &[u8], answer: &[u8]) {
     let mut page = [0u8; 128];
     let n = ruling::respond(block, answer, &mut page);

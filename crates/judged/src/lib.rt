@@ -1,4 +1,6 @@
 // The trials of `velejume::judge`: builders' answers, against stated verdicts and against a judging from an exhaustive solver.
+#![tactic(auto)]
+
 mod examples;
 mod held;
 mod kinds;

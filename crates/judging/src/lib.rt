@@ -1,4 +1,6 @@
 // Judging: the refusals 9 and 10 of reads, then, with their table filled, the verdict on a builder's answer.
+#![tactic(auto)]
+
 ghost use Rattle.std.specs.Prelude.{◌≡◌, ◌*◌, ◌≤◌, min, length};
 ghost use Rattle.meaning.specs.Active.{used};
 ghost use Rattle.meaning.specs.Judge.{judging_on};

@@ -1,4 +1,6 @@
 // What the layers share: numbers of two and four bytes, the shape of the reads that lie in a part of bytes, and how the lent runs are laid out.
+#![tactic(auto)]
+
 ghost use Rattle.std.specs.Prelude.{◌≡◌, ◌+◌, ◌-◌, ◌*◌, ◌/◌, ◌≤◌, ◌<◌, length};
 ghost use Rattle.meaning.specs.Numbers.{big_endian, word, long};
 ghost use Rattle.layout.specs.Reads.{CellSize};

@@ -1,4 +1,6 @@
 // Pieces of a printed text: bytes, numbers in decimal, and lines of them.
+#![tactic(auto)]
+
 ghost use Rattle.std.specs.Prelude.{◌≡◌, [], ◌∷◌, ◌++◌, map, ◌+◌, ◌*◌, ◌≤◌, ◌<◌, length};
 ghost use Rattle.lines.specs.Line.{decimal, mark, line, sides_word, hap1_word, hap2_word, sides_text, numbers_line, run_text};
 ghost use Rattle.lines.specs.Put.{Put};

@@ -1,5 +1,7 @@
 // The trials of `velejume::phase_margins`: the examples, both sides of the limits, and generated blocks, with runs on both sides of what is
 // needed, against what is stated and against the exhaustive solver.
+#![tactic(auto)]
+
 mod examples;
 mod held;
 mod kinds;

@@ -1,4 +1,6 @@
 // The solver that gives the margins too: the checks 9, 10, 11 and 13, then what the solver writes, then the margins of its division.
+#![tactic(auto)]
+
 ghost use Rattle.std.specs.Prelude.{◌≡◌, List, ℕ, ◌+◌, ◌*◌, ◌≤◌, ◌<◌, length};
 ghost use Rattle.meaning.specs.Block.{Matrix};
 ghost use Rattle.meaning.specs.Answer.{division_of};

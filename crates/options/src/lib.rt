@@ -1,4 +1,6 @@
 // What an argument of `phase` asks for.
+#![tactic(auto)]
+
 ghost use Rattle.std.specs.Prelude.{◌≡◌, true, false};
 ghost use Rattle.options.specs.Words.{all_het_word, margins_word};
 

@@ -1,5 +1,6 @@
 // `phase` reads a fragment block from standard input and prints five lines, or one that says why it is refused. With `--all-het` the two
 // haplotypes differ at every column; with `--margins` two more lines tell how sure each letter is.
+#![tactic(auto)]
 
 // Says which argument is not known.
 fn unknown_argument(name: &[u8]) {

@@ -1,5 +1,7 @@
 // The trials of `velejume::phase` and `velejume::phase_heterozygous`: the examples, both sides of the limits, and generated blocks, against
 // what is stated and against an exhaustive solver that shares nothing with the column method.
+#![tactic(auto)]
+
 mod examples;
 mod held;
 mod kinds;

@@ -1,4 +1,6 @@
 // Small functions that every layer uses: a number made wider, the lesser of two, powers of two, zeros.
+#![tactic(auto)]
+
 ghost use Rattle.std.specs.Prelude.{◌≡◌, cond, ℕ, ◌^◌, ◌≤◌, ◌<◌, min, ltb, length, get_or};
 ghost use Rattle.meaning.specs.Active.{used};
 

@@ -1,4 +1,6 @@
 // The reads of a block, one after the other: the checks 5, 38, 6 and 7, and where each read lies.
+#![tactic(auto)]
+
 ghost use Rattle.std.specs.Prelude.{◌≡◌, ◌+◌, ◌*◌, ◌≤◌, length, drop};
 ghost use Rattle.meaning.specs.Refusals.{reads_fault};
 ghost use Rattle.layout.specs.Reads.{CellSize, Lawful};

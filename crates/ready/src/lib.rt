@@ -1,4 +1,6 @@
 // From lawful reads to their table: where each read lies, check 9, each column's list, the table.
+#![tactic(auto)]
+
 ghost use Rattle.std.specs.Prelude.{◌≡◌, ◌*◌, ◌≤◌, min, length, replicate};
 ghost use Rattle.meaning.specs.Active.{used};
 ghost use Rattle.meaning.specs.Letters.{charge_in, mode_of};

@@ -1,4 +1,6 @@
 // The solver, with margins too, and the judge with room to work in: local arrays, as large as the reads need.
+#![tactic(auto)]
+
 ghost use Rattle.std.specs.Prelude.{◌≡◌, true, ◌≤◌};
 ghost use Rattle.meaning.specs.Letters.{mode_of};
 ghost use Rattle.meaning.specs.Call.{call_on};

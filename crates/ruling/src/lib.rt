@@ -1,4 +1,6 @@
 // The text that `judge` prints for a block and an answer.
+#![tactic(auto)]
+
 ghost use Rattle.std.specs.Prelude.{◌≡◌, ◌≤◌, length};
 ghost use Rattle.meaning.specs.Call.{over};
 ghost use Rattle.ruling.specs.Printed.{printed_verdict};

@@ -1,4 +1,6 @@
 // The solver: the checks 9, 10 and 11, the table, the answer block.
+#![tactic(auto)]
+
 ghost use Rattle.std.specs.Prelude.{◌≡◌, ◌*◌, ◌≤◌, min, length};
 ghost use Rattle.meaning.specs.Active.{used};
 ghost use Rattle.meaning.specs.Letters.{mode_of};

@@ -1,4 +1,6 @@
 // What a builder's answer states: each check of its own, 50 to 54, and how it compares with ours.
+#![tactic(auto)]
+
 ghost use Rattle.std.specs.Prelude.{◌≡◌, not, ◌||◌, ◌≤◌, ◌<◌, ltb, eqb, length, get_or};
 ghost use Rattle.meaning.specs.Numbers.{any_to};
 ghost use Rattle.meaning.specs.Letters.{disagreement};

@@ -1,4 +1,6 @@
 // The four sums of a column, by side and letter: the charging leaf, the level that the mode asks for, a read that changes side, and the charge.
+#![tactic(auto)]
+
 ghost use Rattle.std.specs.Prelude.{◌≡◌, true, false, ◌-◌, ◌/◌, ◌≤◌, ◌<◌, min, get_or};
 ghost use Rattle.meaning.specs.Charge.{charge_of};
 ghost use Rattle.sums.specs.Sums.{sums_of, array_of, Small, LightPairs, pair_at, sums_with, side_of, moved_sums, Movable};

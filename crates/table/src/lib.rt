@@ -1,4 +1,6 @@
 // The table, column by column.
+#![tactic(auto)]
+
 ghost use Rattle.std.specs.Prelude.{◌≡◌, ℕ, ◌-◌, ◌*◌, ◌≤◌, ◌<◌, length, get_or};
 ghost use Rattle.meaning.specs.Active.{entries};
 ghost use Rattle.meaning.specs.Letters.{charge_in, mode_of};

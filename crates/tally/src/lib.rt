@@ -1,4 +1,6 @@
 // The tally of the reads' cells for sides: one pass over the reads. `letters` reads each column's sums, letters and flips off it.
+#![tactic(auto)]
+
 ghost use Rattle.std.specs.Prelude.{◌≡◌, false, ℕ, ◌+◌, ◌*◌, ◌-◌, ◌/◌, ◌≤◌, ◌<◌, length, get_or};
 ghost use Rattle.meaning.specs.Block.{cell_at};
 ghost use Rattle.meaning.specs.Division.{Side};

@@ -1,5 +1,7 @@
 // The text that `phase` prints: the five lines of an answer block, with two more of the margins where they are asked for, or the one line of a refusal.
 // And that of `judge`: the two lines of a verdict, or the one of a refusal.
+#![tactic(auto)]
+
 ghost use Rattle.std.specs.Prelude.{◌≡◌, ◌++◌, ◌*◌, ◌≤◌, length, drop};
 ghost use Rattle.meaning.specs.Numbers.{word};
 ghost use Rattle.lines.specs.Put.{Put};

@@ -1,4 +1,6 @@
 // The cases of documents 01 and 02 that are run, a crate for each call. Prints what was tried and the differences found.
+#![tactic(auto)]
+
 fn main() {
     let mut all = [0usize; 64];
     phased::run(&mut all);

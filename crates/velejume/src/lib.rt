@@ -1,4 +1,6 @@
 // The public calls. None asks anything of its caller: every block of bytes, with rooms of every size, gets an answer or a refusal.
+#![tactic(auto)]
+
 ghost use Rattle.std.specs.Prelude.{◌≡◌};
 ghost use Rattle.meaning.specs.Block.{latest};
 ghost use Rattle.meaning.specs.Letters.{mode_of};

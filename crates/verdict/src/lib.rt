@@ -1,4 +1,6 @@
 // The verdict on a builder's answer: with the table filled, the first of 50 to 57 that applies.
+#![tactic(auto)]
+
 ghost use Rattle.std.specs.Prelude.{◌≡◌, ◌*◌, ◌≤◌, length};
 ghost use Rattle.meaning.specs.Judge.{other_answer, verdict};
 ghost use Rattle.layout.specs.Reads.{matrix_in};

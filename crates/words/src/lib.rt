@@ -1,4 +1,6 @@
 // The line that says a verdict in words.
+#![tactic(auto)]
+
 ghost use Rattle.std.specs.Prelude.{◌+◌, ◌≤◌, length};
 ghost use Rattle.lines.specs.Put.{Put};
 ghost use Rattle.words.specs.Words.{verdict_words};

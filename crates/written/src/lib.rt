@@ -1,4 +1,6 @@
 // The answer block of a table that is filled: sides, letters and flips, cost.
+#![tactic(auto)]
+
 ghost use Rattle.std.specs.Prelude.{◌≡◌, ◌+◌, ◌*◌, ◌≤◌, length};
 ghost use Rattle.meaning.specs.Active.{entries};
 ghost use Rattle.meaning.specs.Charge.{least_cost};

@@ -9,79 +9,79 @@ use mathlib.Core.List.{List, [], ◌∷◌, ◌++◌, append_assoc, append-nil}
 use mathlib.Core.Path.{◌≡◌, sym, ap, ap₂, ◌∙◌, subst}
 use native.Mathlib.Nat.{add_assoc, add-zero, le_of_eq, le_trans, zero-add, add-suc}
 use native.Mathlib.Omega.{arith}
-use Rattle.meaning.specs.Numbers.{maxTo}
+use Rattle.meaning.specs.Numbers.{max_to}
 use Rattle.meaning.specs.Block.{Matrix}
-use Rattle.meaning.specs.Active.{activeCount, mostActive, used, entries}
-use Rattle.meaning.specs.Closing.{activeReads}
+use Rattle.meaning.specs.Active.{active_count, most_active, used, entries}
+use Rattle.meaning.specs.Closing.{active_reads}
 use Rattle.meaning.specs.Charge.{Charge}
-use Rattle.meaning.specs.Table.{entry, column, columnsTo, table}
+use Rattle.meaning.specs.Table.{entry, column, columns_to, table}
 use Rattle.meaning.specs.Call.{over, laid}
-use Rattle.meaning.specs.Rule.{columnOf}
-use Rattle.meaning.proofs.Totals.{max-above}
-use Rattle.meaning.proofs.Lists.{length_run, getD-run}
+use Rattle.meaning.specs.Rule.{column_of}
+use Rattle.meaning.proofs.Totals.{max_above}
+use Rattle.meaning.proofs.Lists.{length_run, get_or-run}
 use Rattle.meaning.proofs.Closing.{Placed, length-active}
 
 -- a column has room for its entries
-pub used-room : (M : Matrix) → Placed M → (j : ℕ) → j < M.columns → used (length (activeReads M j)) ≤ entries M
-unfolding entries mostActive
+pub used-room : (M : Matrix) → Placed M → (j : ℕ) → j < M.columns → used (length (active_reads M j)) ≤ entries M
+unfolding entries most_active
 used-room M p j l =
-    pow_mono (le_trans (le_of_eq (ap (λ (n : ℕ). n - 1) (length-active M p j))) (let h : activeCount M j ≤ maxTo M.columns (activeCount M) = max-above M.columns (activeCount M) j l in omega arith))
+    pow_mono (le_trans (le_of_eq (ap (λ (n : ℕ). n - 1) (length-active M p j))) (let h : active_count M j ≤ max_to M.columns (active_count M) = max_above M.columns (active_count M) j l in omega arith))
 
 module _ (C : Charge) (M : Matrix) where
   pub length-column : (j : ℕ) → length (column C M j) ≡ entries M
   unfolding column
   length-column j = length_run 0 (entries M) _
 
-  pub column-at : (j k : ℕ) → k < entries M → get_or (column C M j) k 0 ≡ cond (ltb k (used (length (activeReads M j)))) (entry C M j k) 0
+  pub column-at : (j k : ℕ) → k < entries M → get_or (column C M j) k 0 ≡ cond (ltb k (used (length (active_reads M j)))) (entry C M j k) 0
   unfolding column
-  column-at j k l = getD-run 0 (entries M) (λ i. cond (ltb i (used (length (activeReads M j)))) (entry C M j i) 0) k 0 l ∙ ap (λ (i : ℕ). cond (ltb i (used (length (activeReads M j)))) (entry C M j i) 0) (zero-add k)
+  column-at j k l = get_or-run 0 (entries M) (λ i. cond (ltb i (used (length (active_reads M j)))) (entry C M j i) 0) k 0 l ∙ ap (λ (i : ℕ). cond (ltb i (used (length (active_reads M j)))) (entry C M j i) 0) (zero-add k)
 
-  pub length-columns : (j : ℕ) → length (columnsTo C M j) ≡ j * entries M
-  unfolding columnsTo
+  pub length-columns : (j : ℕ) → length (columns_to C M j) ≡ j * entries M
+  unfolding columns_to
   length-columns zero = omega arith
-  length-columns (suc j) = length-append (columnsTo C M j) (column C M j) ∙ omega (arith, length-columns j, length-column j)
+  length-columns (suc j) = length-append (columns_to C M j) (column C M j) ∙ omega (arith, length-columns j, length-column j)
 
   -- columns laid down later do not move those before
-  pub columns-split : (j i : ℕ) → (rest : List ℕ) × (columnsTo C M (j + i) ≡ columnsTo C M j ++ rest)
-  unfolding columnsTo
-  columns-split j zero = ([], ap (columnsTo C M) (add-zero j) ∙ sym (append-nil (columnsTo C M j)))
-  columns-split j (suc i) =
-      let w = columns-split j i in
-      (w.0 ++ column C M (j + i), ap (columnsTo C M) (add-suc j i) ∙ ap (λ (l : List ℕ). l ++ column C M (j + i)) w.1 ∙ append_assoc (columnsTo C M j) w.0 (column C M (j + i)))
+  pub columns_split : (j i : ℕ) → (rest : List ℕ) × (columns_to C M (j + i) ≡ columns_to C M j ++ rest)
+  unfolding columns_to
+  columns_split j zero = ([], ap (columns_to C M) (add-zero j) ∙ sym (append-nil (columns_to C M j)))
+  columns_split j (suc i) =
+      let w = columns_split j i in
+      (w.0 ++ column C M (j + i), ap (columns_to C M) (add-suc j i) ∙ ap (λ (l : List ℕ). l ++ column C M (j + i)) w.1 ∙ append_assoc (columns_to C M j) w.0 (column C M (j + i)))
 
   -- entry k of column j stands at j × T + k
-  pub columns-at : (j i k : ℕ) → k < entries M → get_or (columnsTo C M (suc j + i)) (j * entries M + k) 0 ≡ get_or (column C M j) k 0
-  unfolding columnsTo
+  pub columns-at : (j i k : ℕ) → k < entries M → get_or (columns_to C M (suc j + i)) (j * entries M + k) 0 ≡ get_or (column C M j) k 0
+  unfolding columns_to
   columns-at j i k l =
-      let w = columns-split (suc j) i in
-      ap (λ (x : List ℕ). get_or x (j * entries M + k) 0) (w.1 ∙ append_assoc (columnsTo C M j) (column C M j) w.0)
-      ∙ ap (λ (n : ℕ). get_or (columnsTo C M j ++ (column C M j ++ w.0)) (n + k) 0) (sym (length-columns j))
-      ∙ get_or-append-add (columnsTo C M j) (column C M j ++ w.0) k 0
+      let w = columns_split (suc j) i in
+      ap (λ (x : List ℕ). get_or x (j * entries M + k) 0) (w.1 ∙ append_assoc (columns_to C M j) (column C M j) w.0)
+      ∙ ap (λ (n : ℕ). get_or (columns_to C M j ++ (column C M j ++ w.0)) (n + k) 0) (sym (length-columns j))
+      ∙ get_or-append-add (columns_to C M j) (column C M j ++ w.0) k 0
       ∙ get_or-append (column C M j) w.0 0 k (le_trans l (le_of_eq (sym (length-column j))))
 
   pub table_at : (j k : ℕ) → j < M.columns → k < entries M → get_or (table C M) (j * entries M + k) 0 ≡ get_or (column C M j) k 0
   unfolding table
   table_at j k h l =
-      ap (λ (n : ℕ). get_or (columnsTo C M n) (j * entries M + k) 0) (rest M.columns j h) ∙ columns-at j (M.columns - suc j) k l
+      ap (λ (n : ℕ). get_or (columns_to C M n) (j * entries M + k) 0) (rest M.columns j h) ∙ columns-at j (M.columns - suc j) k l
     where
       rest : (m j : ℕ) → j < m → m ≡ suc j + (m - suc j)
       rest m j h = omega arith
 
 -- column j of the table, wherever it stands in front of a room
 module _ (C : Charge) (M : Matrix) where
-  pub columns-part : (j i : ℕ) (rest : List ℕ) → columnOf M (columnsTo C M (suc j + i) ++ rest) j ≡ column C M j
-  unfolding columnsTo
-  columns-part j i rest =
-      let w = columns-split C M (suc j) i in
-      ap (λ (x : List ℕ). columnOf M (x ++ rest) j) w.1
-      ∙ ap (λ (x : List ℕ). columnOf M x j) (append_assoc (columnsTo C M j ++ column C M j) w.0 rest ∙ append_assoc (columnsTo C M j) (column C M j) (w.0 ++ rest))
-      ∙ ap (take (entries M)) (drop_at (columnsTo C M j) (column C M j ++ (w.0 ++ rest)) (j * entries M) (length-columns C M j))
+  pub columns_part : (j i : ℕ) (rest : List ℕ) → column_of M (columns_to C M (suc j + i) ++ rest) j ≡ column C M j
+  unfolding columns_to
+  columns_part j i rest =
+      let w = columns_split C M (suc j) i in
+      ap (λ (x : List ℕ). column_of M (x ++ rest) j) w.1
+      ∙ ap (λ (x : List ℕ). column_of M x j) (append_assoc (columns_to C M j ++ column C M j) w.0 rest ∙ append_assoc (columns_to C M j) (column C M j) (w.0 ++ rest))
+      ∙ ap (take (entries M)) (drop_at (columns_to C M j) (column C M j ++ (w.0 ++ rest)) (j * entries M) (length-columns C M j))
       ∙ take_at (column C M j) (w.0 ++ rest) (entries M) (length-column C M j)
 
-  pub table-part : (j : ℕ) → j < M.columns → (rest : List ℕ) → columnOf M (table C M ++ rest) j ≡ column C M j
+  pub table_part : (j : ℕ) → j < M.columns → (rest : List ℕ) → column_of M (table C M ++ rest) j ≡ column C M j
   unfolding table
-  table-part j h rest =
-      ap (λ (n : ℕ). columnOf M (columnsTo C M n ++ rest) j) (further M.columns j h) ∙ columns-part j (M.columns - suc j) rest
+  table_part j h rest =
+      ap (λ (n : ℕ). column_of M (columns_to C M n ++ rest) j) (further M.columns j h) ∙ columns_part j (M.columns - suc j) rest
     where
       further : (m j : ℕ) → j < m → m ≡ suc j + (m - suc j)
       further m j h = omega arith
@@ -91,8 +91,8 @@ module _ (at : ℕ) (a b old : List ℕ) (fits : at + length a ≤ length old) w
   front_length : length (take at old ++ a) ≡ at + length a
   front_length = length-append (take at old) a ∙ ap (λ (n : ℕ). n + length a) (length-take-le at old (omega arith))
 
-  pub laid-join : laid (at + length a) b (laid at a old) ≡ laid at (a ++ b) old
-  laid-join =
+  pub laid_join : laid (at + length a) b (laid at a old) ≡ laid at (a ++ b) old
+  laid_join =
       let n : ℕ = at + length a in
       let whole : laid at a old ≡ (take at old ++ a) ++ drop n old = sym (append_assoc (take at old) a (drop n old)) in
       ap (λ (l : List ℕ). take n l ++ (b ++ drop (n + length b) l)) whole
@@ -111,26 +111,26 @@ length-laid at a old h =
     ∙ ap₂ ◌+◌ (length-take-le at old (omega arith)) (length-append a (drop (at + length a) old))
     ∙ omega (arith, length-drop (at + length a) old)
 
-pub laid-front : (new old : List ℕ) → laid 0 new old ≡ over new old
-laid-front new old = ap (λ (n : ℕ). new ++ drop n old) (zero-add (length new))
+pub laid_front : (new old : List ℕ) → laid 0 new old ≡ over new old
+laid_front new old = ap (λ (n : ℕ). new ++ drop n old) (zero-add (length new))
 
 -- one byte more at the end of a part, and a byte before it
 pub set-laid : (l : List ℕ) (i v : ℕ) → i < length l → set l i v ≡ laid i (v ∷ []) l
 set-laid l i v h = sets-eq (v ∷ []) l i (omega arith) ∙ append_assoc (take i l) (v ∷ []) (drop (i + 1) l)
 
-pub set-laid-end : (at : ℕ) (a old : List ℕ) (v : ℕ) → at + length a < length old → set (laid at a old) (at + length a) v ≡ laid at (a ++ (v ∷ [])) old
-set-laid-end at a old v h =
+pub set_laid_end : (at : ℕ) (a old : List ℕ) (v : ℕ) → at + length a < length old → set (laid at a old) (at + length a) v ≡ laid at (a ++ (v ∷ [])) old
+set_laid_end at a old v h =
     set-laid (laid at a old) (at + length a) v (subst (λ (n : ℕ). at + length a < n) (sym (length-laid at a old (omega arith))) h)
-    ∙ laid-join at a (v ∷ []) old (omega arith)
+    ∙ laid_join at a (v ∷ []) old (omega arith)
 
-pub set-laid-before : (at : ℕ) (a old : List ℕ) (i v : ℕ) → i < at → at ≤ length old → set (laid at a old) i v ≡ laid at a (set old i v)
-set-laid-before at a old i v l h =
+pub set_laid_before : (at : ℕ) (a old : List ℕ) (i v : ℕ) → i < at → at ≤ length old → set (laid at a old) i v ≡ laid at a (set old i v)
+set_laid_before at a old i v l h =
     set-append_left (take at old) (a ++ drop (at + length a) old) i v (subst (λ (n : ℕ). i < n) (sym (length-take-le at old h)) l)
     ∙ ap₂ (λ (x y : List ℕ). x ++ (a ++ y)) (sym (take-set-lt at old i v l)) (sym (drop-set-lt (at + length a) old i v (omega arith)))
 
 -- a part laid in front of another
-pub laid-before : (at : ℕ) (a b old : List ℕ) → at + length a + length b ≤ length old → laid at a (laid (at + length a) b old) ≡ laid at (a ++ b) old
-laid-before at a b old h =
+pub laid_before : (at : ℕ) (a b old : List ℕ) → at + length a + length b ≤ length old → laid at a (laid (at + length a) b old) ≡ laid at (a ++ b) old
+laid_before at a b old h =
     let n : ℕ = at + length a in
     let inside : length (take n old) ≡ n = length-take-le n old (omega arith) in
     ap₂ (λ (x y : List ℕ). x ++ (a ++ y))

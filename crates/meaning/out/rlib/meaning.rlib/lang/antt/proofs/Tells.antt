@@ -7,10 +7,10 @@ use mathlib.Core.Logic.{◌≢◌, ◌↔◌, ◌⊎◌, inl, inr}
 use mathlib.Core.Path.{◌≡◌, refl, sym, ◌∙◌}
 use native.Mathlib.Nat.{le_refl}
 use native.Mathlib.Omega.{arith}
-use Rattle.meaning.specs.Numbers.{anyTo}
+use Rattle.meaning.specs.Numbers.{any_to}
 use Rattle.meaning.specs.Division.{Side}
-use Rattle.meaning.proofs.Lists.{any_at, not-both, or-true-cases, and_left, and_right}
-use Rattle.meaning.proofs.Refusals.{or-false-left, or-false-right}
+use Rattle.meaning.proofs.Lists.{any_at, not_both, or_true_cases, and_left, and_right}
+use Rattle.meaning.proofs.Refusals.{or_false_left, or_false_right}
 
 pub record Tells (t : Bool) (Case Left : Type 0) : Type 0 where
   pub holds : t ≡ true → Case
@@ -18,43 +18,43 @@ pub record Tells (t : Bool) (Case Left : Type 0) : Type 0 where
   pub apart : Case → Left → ⊥
 
 module _ {t : Bool} {Case Left : Type 0} where
-  pub tells-true : Tells t Case Left → Case → t ≡ true
-  tells-true w x = go t w.fails
+  pub tells_true : Tells t Case Left → Case → t ≡ true
+  tells_true w x = go t w.fails
     where
       go : (t : Bool) → (t ≡ false → Left) → t ≡ true
       go true f = refl
       go false f = absurd (w.apart x (f refl))
 
-  pub tells-false : Tells t Case Left → Left → t ≡ false
-  tells-false w x = go t w.holds
+  pub tells_false : Tells t Case Left → Left → t ≡ false
+  tells_false w x = go t w.holds
     where
       go : (t : Bool) → (t ≡ true → Case) → t ≡ false
       go true f = absurd (w.apart (f refl) x)
       go false f = refl
 
-  pub tells-which : Tells t Case Left → Case ⊎ Left
-  tells-which w = go t refl
+  pub tells_which : Tells t Case Left → Case ⊎ Left
+  tells_which w = go t refl
     where
       go : (u : Bool) → t ≡ u → Case ⊎ Left
       go true e = inl (w.holds e)
       go false e = inr (w.fails e)
 
   -- the same test in other words
-  pub in-other-words : {Case' Left' : Type 0} → (Case ↔ Case') → (Left ↔ Left') → Tells t Case Left → Tells t Case' Left'
-  in-other-words f g w = record { holds = λ e. f.0 (w.holds e); fails = λ e. g.0 (w.fails e); apart = λ x y. w.apart (f.1 x) (g.1 y) }
+  pub in_other_words : {Case' Left' : Type 0} → (Case ↔ Case') → (Left ↔ Left') → Tells t Case Left → Tells t Case' Left'
+  in_other_words f g w = record { holds = λ e. f.0 (w.holds e); fails = λ e. g.0 (w.fails e); apart = λ x y. w.apart (f.1 x) (g.1 y) }
 
-pub tells-below : (x y : ℕ) → Tells (ltb x y) (x < y) (y ≤ x)
-tells-below x y = record { holds = ltb-true x y; fails = ltb-false x y; apart = λ p q. omega arith }
+pub tells_below : (x y : ℕ) → Tells (ltb x y) (x < y) (y ≤ x)
+tells_below x y = record { holds = ltb-true x y; fails = ltb-false x y; apart = λ p q. omega arith }
 
-pub tells-other : (x y : ℕ) → Tells (not (eqb x y)) (x ≢ y) (x ≡ y)
-tells-other x y = record { holds = λ e. eqb-false x y (not-true _ e); fails = λ e. eqb-true x y (not-false _ e); apart = λ p q. p q }
+pub tells_other : (x y : ℕ) → Tells (not (eqb x y)) (x ≢ y) (x ≡ y)
+tells_other x y = record { holds = λ e. eqb-false x y (not-true _ e); fails = λ e. eqb-true x y (not-false _ e); apart = λ p q. p q }
 
-pub tells-equal : (x y : ℕ) → Tells (eqb x y) (x ≡ y) (x ≢ y)
-tells-equal x y = record { holds = eqb-true x y; fails = eqb-false x y; apart = λ p q. q p }
+pub tells_equal : (x y : ℕ) → Tells (eqb x y) (x ≡ y) (x ≢ y)
+tells_equal x y = record { holds = eqb-true x y; fails = eqb-false x y; apart = λ p q. q p }
 
 module _ {t u : Bool} {Case Left Case' Left' : Type 0} where
-  pub tells-or : Tells t Case Left → Tells u Case' Left' → Tells (t || u) (Case ⊎ Case') (Left × Left')
-  tells-or v w = record { holds = λ e. one (or-true-cases t u e); fails = λ e. (v.fails (or-false-left t u e), w.fails (or-false-right t u e)); apart = never }
+  pub tells_or : Tells t Case Left → Tells u Case' Left' → Tells (t || u) (Case ⊎ Case') (Left × Left')
+  tells_or v w = record { holds = λ e. one (or_true_cases t u e); fails = λ e. (v.fails (or_false_left t u e), w.fails (or_false_right t u e)); apart = never }
     where
       one : (t ≡ true) ⊎ (u ≡ true) → Case ⊎ Case'
       one (inl e) = inl (v.holds e)
@@ -64,11 +64,11 @@ module _ {t u : Bool} {Case Left Case' Left' : Type 0} where
       never (inl x) p = v.apart x p.0
       never (inr x) p = w.apart x p.1
 
-  pub tells-and : Tells t Case Left → Tells u Case' Left' → Tells (t && u) (Case × Case') (Case → Left')
-  tells-and v w =
+  pub tells_and : Tells t Case Left → Tells u Case' Left' → Tells (t && u) (Case × Case') (Case → Left')
+  tells_and v w =
       record {
         holds = λ e. (v.holds (and_left t u e), w.holds (and_right t u e));
-        fails = λ e x. w.fails (after t (tells-true v x) e);
+        fails = λ e x. w.fails (after t (tells_true v x) e);
         apart = λ p f. w.apart p.1 (f p.0);
       }
     where
@@ -77,28 +77,28 @@ module _ {t u : Bool} {Case Left Case' Left' : Type 0} where
       after false p e = absurd (false≢true p)
 
 -- the number at which a test passes
-pub any_found : (n : ℕ) (f : ℕ → Bool) → anyTo n f ≡ true → (i : ℕ) × (i < n) × (f i ≡ true)
-unfolding anyTo
+pub any_found : (n : ℕ) (f : ℕ → Bool) → any_to n f ≡ true → (i : ℕ) × (i < n) × (f i ≡ true)
+unfolding any_to
 any_found zero f h = absurd (false≢true h)
-any_found (suc n) f h = go (any_found n f) (or-true-cases (anyTo n f) (f n) h)
+any_found (suc n) f h = go (any_found n f) (or_true_cases (any_to n f) (f n) h)
   where
-    go : (anyTo n f ≡ true → (i : ℕ) × (i < n) × (f i ≡ true)) → (anyTo n f ≡ true) ⊎ (f n ≡ true) → (i : ℕ) × (i < suc n) × (f i ≡ true)
+    go : (any_to n f ≡ true → (i : ℕ) × (i < n) × (f i ≡ true)) → (any_to n f ≡ true) ⊎ (f n ≡ true) → (i : ℕ) × (i < suc n) × (f i ≡ true)
     go ih (inl e) = let w = ih e in (w.0, let l : w.0 < n = w.1 in omega arith, w.2)
     go ih (inr e) = (n, le_refl (suc n), e)
 
-pub tells-any : (n : ℕ) {f : ℕ → Bool} {Case Left : ℕ → Type 0} → ((i : ℕ) → Tells (f i) (Case i) (Left i))
-    → Tells (anyTo n f) ((i : ℕ) × (i < n) × Case i) ((i : ℕ) → i < n → Left i)
-tells-any n {f} {Case} {Left} w =
+pub tells_any : (n : ℕ) {f : ℕ → Bool} {Case Left : ℕ → Type 0} → ((i : ℕ) → Tells (f i) (Case i) (Left i))
+    → Tells (any_to n f) ((i : ℕ) × (i < n) × Case i) ((i : ℕ) → i < n → Left i)
+tells_any n {f} {Case} {Left} w =
     record {
       holds = λ e. let x = any_found n f e in (x.0, x.1, (w x.0).holds x.2);
-      fails = λ e i l. (w i).fails (not-both (f i) (λ h. true≢false (sym (any_at n f i l h) ∙ e)));
+      fails = λ e i l. (w i).fails (not_both (f i) (λ h. true≢false (sym (any_at n f i l h) ∙ e)));
       apart = λ x p. (w x.0).apart x.2 (p x.0 x.1);
     }
 
 -- a test of each side
-pub tells-sides : {f : Side → Bool} {Case Left : Side → Type 0} → ((s : Side) → Tells (f s) (Case s) (Left s))
+pub tells_sides : {f : Side → Bool} {Case Left : Side → Type 0} → ((s : Side) → Tells (f s) (Case s) (Left s))
     → Tells (f false || f true) ((s : Side) × Case s) ((s : Side) → Left s)
-tells-sides {f} {Case} {Left} w = in-other-words (some, λ x. one x.0 x.1) (each, λ h. (h false, h true)) (tells-or (w false) (w true))
+tells_sides {f} {Case} {Left} w = in_other_words (some, λ x. one x.0 x.1) (each, λ h. (h false, h true)) (tells_or (w false) (w true))
   where
     some : Case false ⊎ Case true → (s : Side) × Case s
     some (inl x) = (false, x)

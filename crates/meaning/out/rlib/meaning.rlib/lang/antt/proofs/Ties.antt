@@ -12,13 +12,13 @@ use Rattle.meaning.specs.Charge.{Sums}
 use Rattle.meaning.specs.Letters.{Mode, tied, reported}
 
 pub record Reports (mode : Mode) (w : Sums) (s : Side) (x : ℕ) : Type 0 where
-  pub letter-or-dash : (x ≡ bit (mode.letter w s)) ⊎ (x ≡ 2)
+  pub letter_or_dash : (x ≡ bit (mode.letter w s)) ⊎ (x ≡ 2)
   pub dash : x ≡ 2 → mode.choice w s false ≡ mode.choice w s true
   pub tie : mode.choice w s false ≡ mode.choice w s true → x ≡ 2
 
-bit-no-dash : (b : Bool) → bit b ≡ 2 → ⊥
-bit-no-dash true e = omega arith
-bit-no-dash false e = omega arith
+bit_no_dash : (b : Bool) → bit b ≡ 2 → ⊥
+bit_no_dash true e = omega arith
+bit_no_dash false e = omega arith
 
 module _ (mode : Mode) (w : Sums) (s : Side) where
   pub reports : Reports mode w s (reported mode w s)
@@ -26,5 +26,5 @@ module _ (mode : Mode) (w : Sums) (s : Side) where
   reports = go (eqb (mode.choice w s false) (mode.choice w s true)) refl
     where
       go : (t : Bool) → eqb (mode.choice w s false) (mode.choice w s true) ≡ t → Reports mode w s (cond t 2 (bit (mode.letter w s)))
-      go true e = record { letter-or-dash = inr refl; dash = λ _. eqb-true _ _ e; tie = λ _. refl }
-      go false e = record { letter-or-dash = inl refl; dash = λ x. absurd (bit-no-dash (mode.letter w s) x); tie = λ x. absurd (eqb-false _ _ e x) }
+      go true e = record { letter_or_dash = inr refl; dash = λ _. eqb-true _ _ e; tie = λ _. refl }
+      go false e = record { letter_or_dash = inl refl; dash = λ x. absurd (bit_no_dash (mode.letter w s) x); tie = λ x. absurd (eqb-false _ _ e x) }

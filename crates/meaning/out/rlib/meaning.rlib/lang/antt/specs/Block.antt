@@ -1,7 +1,7 @@
 -- The fragment block: its fields, its reads, and the matrix that it stands for.
 -- Nothing is checked here. `Refusals` says which blocks are refused; of any other this is the meaning.
 use Rattle.std.specs.Prelude.{ℕ, zero, suc, ◌+◌, ◌*◌, ◌-◌, ◌/◌, cond, List, [], ◌∷◌, eqb, get_or, take, drop}
-use Rattle.meaning.specs.Numbers.{bigEndian, word, long, run}
+use Rattle.meaning.specs.Numbers.{big_endian, word, long, run}
 
 -- letter 0, letter 1 or 2 for a hole, and its weight
 pub record Cell : Type 0 where
@@ -20,75 +20,75 @@ pub record Matrix : Type 0 where
 abbrev pub hole : Cell
 hole = record { letter = 2; weight = 0 }
 
-abbrev pub noRead : Read
-noRead = record { first = 0; cells = [] }
+abbrev pub no_read : Read
+no_read = record { first = 0; cells = [] }
 
 -- The header: version, number of bytes that follow byte 4, columns m, reads n
-abbrev pub versionField : List ℕ → ℕ
-versionField b = get_or b 0 0
+abbrev pub version_field : List ℕ → ℕ
+version_field b = get_or b 0 0
 
-abbrev pub sizeField : List ℕ → ℕ
-sizeField b = long b 1
+abbrev pub size_field : List ℕ → ℕ
+size_field b = long b 1
 
-abbrev pub columnsField : List ℕ → ℕ
-columnsField b = word b 5
+abbrev pub columns_field : List ℕ → ℕ
+columns_field b = word b 5
 
-abbrev pub readsField : List ℕ → ℕ
-readsField b = word b 7
+abbrev pub reads_field : List ℕ → ℕ
+reads_field b = word b 7
 
 -- the newest version
 abbrev pub latest : ℕ
 latest = 2
 
 -- the bytes of a weight: one in version 1, two in version 2
-abbrev pub weightSize : List ℕ → ℕ
-weightSize b = cond (eqb (versionField b) 2) 2 1
+abbrev pub weight_size : List ℕ → ℕ
+weight_size b = cond (eqb (version_field b) 2) 2 1
 
 -- the bytes of one cell: its letter and its weight
-abbrev pub cellSize : List ℕ → ℕ
-cellSize b = 1 + weightSize b
+abbrev pub cell_size : List ℕ → ℕ
+cell_size b = 1 + weight_size b
 
 -- A read, from a part of the block that starts at it: L, the first column, then c cells of `size` bytes each; L = 2 + size × c
-abbrev pub lengthField : List ℕ → ℕ
-lengthField b = word b 0
+abbrev pub length_field : List ℕ → ℕ
+length_field b = word b 0
 
-abbrev pub firstField : List ℕ → ℕ
-firstField b = word b 2
+abbrev pub first_field : List ℕ → ℕ
+first_field b = word b 2
 
-abbrev pub cellCount : ℕ → List ℕ → ℕ
-cellCount size b = (lengthField b - 2) / size
+abbrev pub cell_count : ℕ → List ℕ → ℕ
+cell_count size b = (length_field b - 2) / size
 
 -- the part of the block that its cells are
-abbrev pub cellsPart : List ℕ → List ℕ
-cellsPart b = take (lengthField b - 2) (drop 4 b)
+abbrev pub cells_part : List ℕ → List ℕ
+cells_part b = take (length_field b - 2) (drop 4 b)
 
 -- cell i of such a part
 unfoldable pub cell_at : ℕ → List ℕ → ℕ → Cell
-cell_at size part i = record { letter = get_or part (size * i) 0; weight = bigEndian (size - 1) part (size * i + 1) }
+cell_at size part i = record { letter = get_or part (size * i) 0; weight = big_endian (size - 1) part (size * i + 1) }
 
 unfoldable pub read_of : ℕ → List ℕ → Read
-read_of size b = record { first = firstField b; cells = run 0 (cellCount size b) (cell_at size (cellsPart b)) }
+read_of size b = record { first = first_field b; cells = run 0 (cell_count size b) (cell_at size (cells_part b)) }
 
 -- what follows the read
-abbrev pub afterRead : List ℕ → List ℕ
-afterRead b = drop (2 + lengthField b) b
+abbrev pub after_read : List ℕ → List ℕ
+after_read b = drop (2 + length_field b) b
 
 -- the n reads from b on, and what follows them
 unfoldable pub reads_of : ℕ → ℕ → List ℕ → List Read
 reads_of size zero b = []
-reads_of size (suc n) b = read_of size b ∷ reads_of size n (afterRead b)
+reads_of size (suc n) b = read_of size b ∷ reads_of size n (after_read b)
 
-unfoldable pub afterReads : ℕ → List ℕ → List ℕ
-afterReads zero b = b
-afterReads (suc n) b = afterReads n (afterRead b)
+unfoldable pub after_reads : ℕ → List ℕ → List ℕ
+after_reads zero b = b
+after_reads (suc n) b = after_reads n (after_read b)
 
 -- the reads stand behind the header's 9 bytes
-abbrev pub readsPart : List ℕ → List ℕ
-readsPart b = drop 9 b
+abbrev pub reads_part : List ℕ → List ℕ
+reads_part b = drop 9 b
 
 -- the matrix of n reads that lie in b one after the other, in cells of `size` bytes, with m columns
-abbrev pub matrixFrom : ℕ → ℕ → ℕ → List ℕ → Matrix
-matrixFrom size m n b = record { columns = m; reads = reads_of size n b }
+abbrev pub matrix_from : ℕ → ℕ → ℕ → List ℕ → Matrix
+matrix_from size m n b = record { columns = m; reads = reads_of size n b }
 
-unfoldable pub matrixOf : List ℕ → Matrix
-matrixOf b = matrixFrom (cellSize b) (columnsField b) (readsField b) (readsPart b)
+unfoldable pub matrix_of : List ℕ → Matrix
+matrix_of b = matrix_from (cell_size b) (columns_field b) (reads_field b) (reads_part b)

@@ -1,7 +1,7 @@
 -- Worked examples of the converter, proved by computing: one list under one statement.
 -- The room holds the number 7 everywhere, and has one byte more than is needed where a block is written.
 use Rattle.std.specs.Prelude.{ℕ, ◌≡◌, refl, List, [], ◌∷◌, replicate}
-use Rattle.meaning.specs.Answer.{answerBytes}
+use Rattle.meaning.specs.Answer.{answer_bytes}
 use Rattle.meaning.specs.Call.{call}
 use Rattle.meaning.specs.Convert.{Conversion, converting}
 use Rattle.meaning.specs.Opened.{opened}
@@ -135,14 +135,14 @@ no_room =
 abbrev pub conversions : List ConvertExample
 conversions = c9 ∷ bare ∷ dense ∷ few ∷ two ∷ two-first ∷ size ∷ counts ∷ odd ∷ place ∷ letter ∷ remain ∷ no_room ∷ []
 
-pub conversions-hold : All Gives conversions
+pub conversions_hold : All Gives conversions
 unfolding opened
-conversions-hold = (refl, (refl, (refl, (refl, (refl, (refl, (refl, (refl, (refl, (refl, (refl, (refl, (refl, tt)))))))))))))
+conversions_hold = (refl, (refl, (refl, (refl, (refl, (refl, (refl, (refl, (refl, (refl, (refl, (refl, (refl, tt)))))))))))))
 
 -- P9 and what is written for it: the same cost, flips, letters and table, and the side of the read that is left
 pub p9-kept :
-    (call c9.block (7 ∷ []) (replicate 21 7) ≡ record { number = 0; second = 0; work = 0 ∷ []; out = answerBytes 0 0 (0 ∷ 0 ∷ []) (0 ∷ []) (2 ∷ []) })
+    (call c9.block (7 ∷ []) (replicate 21 7) ≡ record { number = 0; second = 0; work = 0 ∷ []; out = answer_bytes 0 0 (0 ∷ 0 ∷ []) (0 ∷ []) (2 ∷ []) })
     × (call (converting c9.block (replicate 16 7)).out (7 ∷ []) (replicate 20 7)
-    ≡ record { number = 0; second = 0; work = 0 ∷ []; out = answerBytes 0 0 (0 ∷ []) (0 ∷ []) (2 ∷ []) })
+    ≡ record { number = 0; second = 0; work = 0 ∷ []; out = answer_bytes 0 0 (0 ∷ []) (0 ∷ []) (2 ∷ []) })
 unfolding opened
 p9-kept = (refl, refl)

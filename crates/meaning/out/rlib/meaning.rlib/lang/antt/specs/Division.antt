@@ -10,8 +10,8 @@ Side = Bool
 abbrev pub Division : Type 0
 Division = ℕ → Side
 
-abbrev pub allZero : Division
-allZero r = false
+abbrev pub all_zero : Division
+all_zero r = false
 
 -- d, with read r on side s
 abbrev pub put : ℕ → Side → Division → Division
@@ -27,15 +27,15 @@ NotAfter [] d e = Unit {0}
 NotAfter (r ∷ rs) d e = ((d r ≡ false) × (e r ≡ true)) ⊎ ((d r ≡ e r) × NotAfter rs d e)
 
 -- the least f over all divisions that agree with d on every read that is not in the list
-unfoldable pub leastOver : List ℕ → (Division → ℕ) → Division → ℕ
-leastOver [] f d = f d
-leastOver (r ∷ rs) f d = min (leastOver rs f (put r false d)) (leastOver rs f (put r true d))
+unfoldable pub least_over : List ℕ → (Division → ℕ) → Division → ℕ
+least_over [] f d = f d
+least_over (r ∷ rs) f d = min (least_over rs f (put r false d)) (least_over rs f (put r true d))
 
 -- the one with the lesser f; the first, if they are equal
 abbrev pub lesser : (Division → ℕ) → Division → Division → Division
 lesser f d e = cond (leb (f d) (f e)) d e
 
 -- of those divisions with the least f the first
-unfoldable pub firstOver : List ℕ → (Division → ℕ) → Division → Division
-firstOver [] f d = d
-firstOver (r ∷ rs) f d = lesser f (firstOver rs f (put r false d)) (firstOver rs f (put r true d))
+unfoldable pub first_over : List ℕ → (Division → ℕ) → Division → Division
+first_over [] f d = d
+first_over (r ∷ rs) f d = lesser f (first_over rs f (put r false d)) (first_over rs f (put r true d))

@@ -2,7 +2,7 @@
 -- P1 to P9 and one more, all but P9 again in version 2, and two whose weights need two bytes, as one list under one statement: each block, called with room for the table and the answer and one more of each, gives number 0
 -- and the cost, and leaves the table and the answer block in front of what the rooms held. Then one refusal of each number, and one answer for each verdict.
 use Rattle.std.specs.Prelude.{ℕ, suc, ◌≡◌, refl, List, [], ◌∷◌, ◌++◌, map, length, replicate}
-use Rattle.meaning.specs.Answer.{answerBytes}
+use Rattle.meaning.specs.Answer.{answer_bytes}
 use Rattle.meaning.specs.Call.{call}
 use Rattle.meaning.specs.Judge.{judging}
 use Rattle.meaning.specs.Opened.{opened}
@@ -17,7 +17,7 @@ pub record Example : Type 0 where
   pub entries : List ℕ
 
 abbrev pub answer-of : Example → List ℕ
-answer-of s = answerBytes s.cost s.flips s.sides s.hap1 s.hap2
+answer-of s = answer_bytes s.cost s.flips s.sides s.hap1 s.hap2
 
 abbrev pub Holds : Example → Type 0
 Holds s =
@@ -162,8 +162,8 @@ p10 =
 abbrev pub again : Example → List ℕ → Example
 again s b = record { block = b; cost = s.cost; flips = s.flips; sides = s.sides; hap1 = s.hap1; hap2 = s.hap2; entries = s.entries }
 
-abbrev pub inVersionTwo : List Example
-inVersionTwo =
+abbrev pub in_version_two : List Example
+in_version_two =
     again p1 (2 ∷ 0 ∷ 0 ∷ 0 ∷ 38 ∷ 0 ∷ 2 ∷ 0 ∷ 4 ∷ 0 ∷ 5 ∷ 0 ∷ 0 ∷ 0 ∷ 0 ∷ 5 ∷ 0 ∷ 8 ∷ 0 ∷ 0 ∷ 1 ∷ 0 ∷ 3 ∷ 0 ∷ 0 ∷ 2 ∷ 0 ∷ 8 ∷ 0 ∷ 0 ∷ 1 ∷ 0 ∷ 6 ∷ 1 ∷ 0 ∷ 1 ∷ 0 ∷ 5 ∷ 0 ∷ 1 ∷ 0 ∷ 0 ∷ 2 ∷ [])
     ∷ again p2 (2 ∷ 0 ∷ 0 ∷ 0 ∷ 43 ∷ 0 ∷ 3 ∷ 0 ∷ 3 ∷ 0 ∷ 11 ∷ 0 ∷ 0 ∷ 0 ∷ 0 ∷ 4 ∷ 2 ∷ 0 ∷ 0 ∷ 1 ∷ 0 ∷ 3 ∷ 0 ∷ 11 ∷ 0 ∷ 0 ∷ 0 ∷ 0 ∷ 5 ∷ 0 ∷ 0 ∷ 5 ∷ 0 ∷ 0 ∷ 5 ∷ 0 ∷ 11 ∷ 0 ∷ 0 ∷ 1 ∷ 0 ∷ 5 ∷ 1 ∷ 0 ∷ 5 ∷ 1 ∷ 0 ∷ 5 ∷ [])
     ∷ again p3 (2 ∷ 0 ∷ 0 ∷ 0 ∷ 4 ∷ 0 ∷ 1 ∷ 0 ∷ 0 ∷ [])
@@ -202,11 +202,11 @@ p12 =
     }
 
 abbrev pub examples : List Example
-examples = p1 ∷ p2 ∷ p3 ∷ p4 ∷ p5 ∷ p6 ∷ p7 ∷ p8 ∷ p9 ∷ p10 ∷ (inVersionTwo ++ (p11 ∷ p12 ∷ []))
+examples = p1 ∷ p2 ∷ p3 ∷ p4 ∷ p5 ∷ p6 ∷ p7 ∷ p8 ∷ p9 ∷ p10 ∷ (in_version_two ++ (p11 ∷ p12 ∷ []))
 
-pub examples-hold : All Holds examples
+pub examples_hold : All Holds examples
 unfolding opened
-examples-hold =
+examples_hold =
     (refl, (refl, (refl, (refl, (refl, (refl, (refl, (refl, (refl, (refl, (refl, (refl, (refl, (refl, (refl, (refl, (refl, (refl, (refl, (refl, (refl, tt)))))))))))))))))))))
 
 -- A refusal of each number, with the rooms at which it is given: both stay as they were
@@ -300,8 +300,8 @@ r38 =
     }
 
 -- version 2: read 1 has no cells, and first column 7
-abbrev pub r38-placed : Refused
-r38-placed =
+abbrev pub r38_placed : Refused
+r38_placed =
     record {
       block = 2 ∷ 0 ∷ 0 ∷ 0 ∷ 15 ∷ 0 ∷ 1 ∷ 0 ∷ 2 ∷ 0 ∷ 5 ∷ 0 ∷ 0 ∷ 0 ∷ 0 ∷ 7 ∷ 0 ∷ 2 ∷ 0 ∷ 7 ∷ [];
       work = 99;
@@ -311,8 +311,8 @@ r38-placed =
     }
 
 -- version 1 with a read that has no cells, and first column 7
-abbrev pub r6-empty : Refused
-r6-empty =
+abbrev pub r6_empty : Refused
+r6_empty =
     record {
       block = 1 ∷ 0 ∷ 0 ∷ 0 ∷ 8 ∷ 0 ∷ 8 ∷ 0 ∷ 1 ∷ 0 ∷ 2 ∷ 0 ∷ 7 ∷ [];
       work = 99;
@@ -399,11 +399,11 @@ r11 =
     }
 
 abbrev pub refusals : List Refused
-refusals = r1 ∷ r2 ∷ r3 ∷ r4 ∷ r5 ∷ r5-two ∷ r38 ∷ r38-placed ∷ r6-empty ∷ r6 ∷ r7 ∷ r7-two ∷ r8 ∷ r9 ∷ r10 ∷ r11 ∷ []
+refusals = r1 ∷ r2 ∷ r3 ∷ r4 ∷ r5 ∷ r5-two ∷ r38 ∷ r38_placed ∷ r6_empty ∷ r6 ∷ r7 ∷ r7-two ∷ r8 ∷ r9 ∷ r10 ∷ r11 ∷ []
 
-pub refusals-hold : All Refuses refusals
+pub refusals_hold : All Refuses refusals
 unfolding opened
-refusals-hold =
+refusals_hold =
     (refl, (refl, (refl, (refl, (refl, (refl, (refl, (refl, (refl, (refl, (refl, (refl, (refl, (refl, (refl, (refl, tt))))))))))))))))
 
 -- Judgements: the examples' answers are ours, and for each verdict an answer that gets it. The work room has one entry more than the table.
@@ -431,48 +431,48 @@ j51 = record { of = p1; answer = answer-of p2; number = 51; second = 0 }
 
 -- P1 with a read on side 2, and a cost that is wrong too
 abbrev pub j52 : Judgement
-j52 = record { of = p1; answer = answerBytes 7 1 (2 ∷ 0 ∷ 0 ∷ 0 ∷ []) (1 ∷ 0 ∷ []) (0 ∷ 2 ∷ []); number = 52; second = 0 }
+j52 = record { of = p1; answer = answer_bytes 7 1 (2 ∷ 0 ∷ 0 ∷ 0 ∷ []) (1 ∷ 0 ∷ []) (0 ∷ 2 ∷ []); number = 52; second = 0 }
 
 -- P1 with a letter 3 in the second haplotype
 abbrev pub j52-letter : Judgement
-j52-letter = record { of = p1; answer = answerBytes 1 1 (1 ∷ 0 ∷ 0 ∷ 0 ∷ []) (1 ∷ 0 ∷ []) (0 ∷ 3 ∷ []); number = 52; second = 0 }
+j52-letter = record { of = p1; answer = answer_bytes 1 1 (1 ∷ 0 ∷ 0 ∷ 0 ∷ []) (1 ∷ 0 ∷ []) (0 ∷ 3 ∷ []); number = 52; second = 0 }
 
 -- P1 with a `-` on side 0, where nine stand against nothing
 abbrev pub j53 : Judgement
-j53 = record { of = p1; answer = answerBytes 1 1 (1 ∷ 0 ∷ 0 ∷ 0 ∷ []) (2 ∷ 0 ∷ []) (0 ∷ 2 ∷ []); number = 53; second = 0 }
+j53 = record { of = p1; answer = answer_bytes 1 1 (1 ∷ 0 ∷ 0 ∷ 0 ∷ []) (2 ∷ 0 ∷ []) (0 ∷ 2 ∷ []); number = 53; second = 0 }
 
 -- P2 by a program that forgets the paired read inside its gap: it finds no cost where there is 3
 abbrev pub j54 : Judgement
-j54 = record { of = p2; answer = answerBytes 0 0 (0 ∷ 0 ∷ 1 ∷ []) (0 ∷ 0 ∷ 0 ∷ []) (1 ∷ 1 ∷ 1 ∷ []); number = 54; second = 0 }
+j54 = record { of = p2; answer = answer_bytes 0 0 (0 ∷ 0 ∷ 1 ∷ []) (0 ∷ 0 ∷ 0 ∷ []) (1 ∷ 1 ∷ 1 ∷ []); number = 54; second = 0 }
 
 -- P2 with the pair on the other side: an honest cost of 4
 abbrev pub j55 : Judgement
-j55 = record { of = p2; answer = answerBytes 4 1 (1 ∷ 0 ∷ 1 ∷ []) (0 ∷ 0 ∷ 0 ∷ []) (1 ∷ 1 ∷ 1 ∷ []); number = 55; second = 3 }
+j55 = record { of = p2; answer = answer_bytes 4 1 (1 ∷ 0 ∷ 1 ∷ []) (0 ∷ 0 ∷ 0 ∷ []) (1 ∷ 1 ∷ 1 ∷ []); number = 55; second = 3 }
 
 -- P5 with both reads on side 0, where by these sides five stand against five: an honest `-`
-abbrev pub j55-dash : Judgement
-j55-dash = record { of = p5; answer = answerBytes 5 1 (0 ∷ 0 ∷ []) (2 ∷ []) (2 ∷ []); number = 55; second = 0 }
+abbrev pub j55_dash : Judgement
+j55_dash = record { of = p5; answer = answer_bytes 5 1 (0 ∷ 0 ∷ []) (2 ∷ []) (2 ∷ []); number = 55; second = 0 }
 
 -- P5 with the sides exchanged
 abbrev pub j56 : Judgement
-j56 = record { of = p5; answer = answerBytes 0 0 (1 ∷ 0 ∷ []) (1 ∷ []) (0 ∷ []); number = 56; second = 0 }
+j56 = record { of = p5; answer = answer_bytes 0 0 (1 ∷ 0 ∷ []) (1 ∷ []) (0 ∷ []); number = 56; second = 0 }
 
 -- P4 with a letter where ours is `-`
 abbrev pub j56-letter : Judgement
-j56-letter = record { of = p4; answer = answerBytes 0 0 (0 ∷ []) (0 ∷ []) (0 ∷ []); number = 56; second = 0 }
+j56-letter = record { of = p4; answer = answer_bytes 0 0 (0 ∷ []) (0 ∷ []) (0 ∷ []); number = 56; second = 0 }
 
 -- P9 with the empty read on side 1
-abbrev pub j56-empty : Judgement
-j56-empty = record { of = p9; answer = answerBytes 0 0 (1 ∷ 0 ∷ []) (0 ∷ []) (2 ∷ []); number = 56; second = 0 }
+abbrev pub j56_empty : Judgement
+j56_empty = record { of = p9; answer = answer_bytes 0 0 (1 ∷ 0 ∷ []) (0 ∷ []) (2 ∷ []); number = 56; second = 0 }
 
 -- P1 with another number of flips: ours
 abbrev pub j57 : Judgement
-j57 = record { of = p1; answer = answerBytes 1 9 (1 ∷ 0 ∷ 0 ∷ 0 ∷ []) (1 ∷ 0 ∷ []) (0 ∷ 2 ∷ []); number = 57; second = 0 }
+j57 = record { of = p1; answer = answer_bytes 1 9 (1 ∷ 0 ∷ 0 ∷ 0 ∷ []) (1 ∷ 0 ∷ []) (0 ∷ 2 ∷ []); number = 57; second = 0 }
 
 abbrev pub judgements : List Judgement
-judgements = map own examples ++ (j50 ∷ j51 ∷ j52 ∷ j52-letter ∷ j53 ∷ j54 ∷ j55 ∷ j55-dash ∷ j56 ∷ j56-letter ∷ j56-empty ∷ j57 ∷ [])
+judgements = map own examples ++ (j50 ∷ j51 ∷ j52 ∷ j52-letter ∷ j53 ∷ j54 ∷ j55 ∷ j55_dash ∷ j56 ∷ j56-letter ∷ j56_empty ∷ j57 ∷ [])
 
-pub judgements-hold : All Judges judgements
+pub judgements_hold : All Judges judgements
 unfolding opened
-judgements-hold =
+judgements_hold =
     (refl, (refl, (refl, (refl, (refl, (refl, (refl, (refl, (refl, (refl, (refl, (refl, (refl, (refl, (refl, (refl, (refl, (refl, (refl, (refl, (refl, (refl, (refl, (refl, (refl, (refl, (refl, (refl, (refl, (refl, (refl, (refl, (refl, tt)))))))))))))))))))))))))))))))))

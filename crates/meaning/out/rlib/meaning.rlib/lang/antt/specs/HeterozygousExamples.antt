@@ -2,13 +2,13 @@
 use Rattle.std.specs.Prelude.{suc, ◌≡◌, refl, List, [], ◌∷◌, ◌++◌, length, replicate}
 use Rattle.meaning.specs.Block.{latest}
 use Rattle.meaning.specs.Letters.{heterozygous}
-use Rattle.meaning.specs.Call.{callWith}
+use Rattle.meaning.specs.Call.{call_with}
 use Rattle.meaning.specs.Examples.{Example, answer-of, All, p1, p2, p3, p4, p5, p6, p7, p8, p9}
 use Rattle.meaning.specs.Opened.{opened}
 
 abbrev pub HoldsHeterozygous : Example → Type 0
 HoldsHeterozygous s =
-    callWith heterozygous latest s.block (replicate (suc (length s.entries)) 7) (replicate (suc (length (answer-of s))) 7)
+    call_with heterozygous latest s.block (replicate (suc (length s.entries)) 7) (replicate (suc (length (answer-of s))) 7)
     ≡ record { number = 0; second = s.cost; work = s.entries ++ (7 ∷ []); out = answer-of s ++ (7 ∷ []) }
 
 -- P1
@@ -154,9 +154,9 @@ h11 =
       entries = 1 ∷ 0 ∷ 1 ∷ 1 ∷ [];
     }
 
-abbrev pub heterozygousExamples : List Example
-heterozygousExamples = h1 ∷ h2 ∷ h3 ∷ h4 ∷ h5 ∷ h6 ∷ h7 ∷ h8 ∷ h9 ∷ h10 ∷ h11 ∷ []
+abbrev pub heterozygous_examples : List Example
+heterozygous_examples = h1 ∷ h2 ∷ h3 ∷ h4 ∷ h5 ∷ h6 ∷ h7 ∷ h8 ∷ h9 ∷ h10 ∷ h11 ∷ []
 
-pub heterozygous-hold : All HoldsHeterozygous heterozygousExamples
+pub heterozygous_hold : All HoldsHeterozygous heterozygous_examples
 unfolding opened
-heterozygous-hold = (refl, (refl, (refl, (refl, (refl, (refl, (refl, (refl, (refl, (refl, (refl, tt)))))))))))
+heterozygous_hold = (refl, (refl, (refl, (refl, (refl, (refl, (refl, (refl, (refl, (refl, (refl, tt)))))))))))

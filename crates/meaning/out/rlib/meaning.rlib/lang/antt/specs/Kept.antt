@@ -8,8 +8,8 @@ unfoldable pub filled : Read → Bool
 filled r = ltb 0 (length r.cells)
 
 -- the others, in their order
-abbrev pub withoutEmpty : Matrix → Matrix
-withoutEmpty M = record { columns = M.columns; reads = keep filled M.reads }
+abbrev pub without_empty : Matrix → Matrix
+without_empty M = record { columns = M.columns; reads = keep filled M.reads }
 
 -- behind one read more, which is kept or not
 abbrev pub behind : Bool → (ℕ → ℕ) → ℕ → ℕ
@@ -18,6 +18,6 @@ behind true number zero = 0
 behind true number (suc k) = suc (number k)
 
 -- the number that the k-th kept read has in the whole list; beyond the kept ones, numbers beyond the list
-unfoldable pub oldNumber : List Read → ℕ → ℕ
-oldNumber [] k = k
-oldNumber (r ∷ rs) k = behind (filled r) (oldNumber rs) k
+unfoldable pub old_number : List Read → ℕ → ℕ
+old_number [] k = k
+old_number (r ∷ rs) k = behind (filled r) (old_number rs) k

@@ -1,6 +1,6 @@
 -- Worked examples of the margins, proved by computing: P1 to P9 and four more, as one list under one statement; then refusals, all three rooms as they were.
 use Rattle.std.specs.Prelude.{ℕ, suc, ◌+◌, ◌≡◌, refl, List, [], ◌∷◌, ◌++◌, map, length, replicate}
-use Rattle.meaning.specs.Margins.{marginCall}
+use Rattle.meaning.specs.Margins.{margin_call}
 use Rattle.meaning.specs.Examples.{Example, answer-of, All, p1, p2, p3, p4, p5, p6, p7, p8, p9, p10, p11, p12, Refused, r11, refusals}
 use Rattle.meaning.specs.Opened.{opened}
 
@@ -12,7 +12,7 @@ pub record MarginExample : Type 0 where
 
 abbrev pub HoldsMargins : MarginExample → Type 0
 HoldsMargins s =
-    marginCall s.of.block (replicate (suc (length s.of.entries)) 7) (replicate (suc (length (answer-of s.of))) 7)
+    margin_call s.of.block (replicate (suc (length s.of.entries)) 7) (replicate (suc (length (answer-of s.of))) 7)
     (replicate (length s.margins + s.beyond) 7)
     ≡ record {
       number = 0;
@@ -36,8 +36,8 @@ fives =
     }
 
 -- P1 to P10; the tie; version 2 with margins of more than 16 and of more than 18 bits
-abbrev pub marginExamples : List MarginExample
-marginExamples =
+abbrev pub margin_examples : List MarginExample
+margin_examples =
     record { of = p1; margins = 9 ∷ 3 ∷ 5 ∷ 0 ∷ []; beyond = 1 }
     ∷ record { of = p2; margins = 9 ∷ 5 ∷ 2 ∷ 5 ∷ 5 ∷ 5 ∷ []; beyond = 4 }
     ∷ record { of = p3; margins = 0 ∷ 0 ∷ []; beyond = 1 }
@@ -53,9 +53,9 @@ marginExamples =
     ∷ record { of = p12; margins = 327675 ∷ 65535 ∷ []; beyond = 0 }
     ∷ []
 
-pub margins-hold : All HoldsMargins marginExamples
+pub margins_hold : All HoldsMargins margin_examples
 unfolding opened
-margins-hold = (refl, (refl, (refl, (refl, (refl, (refl, (refl, (refl, (refl, (refl, (refl, (refl, (refl, tt)))))))))))))
+margins_hold = (refl, (refl, (refl, (refl, (refl, (refl, (refl, (refl, (refl, (refl, (refl, (refl, (refl, tt)))))))))))))
 
 -- a refusal, and the numbers of the run at which it is given
 pub record MarginRefused : Type 0 where
@@ -64,7 +64,7 @@ pub record MarginRefused : Type 0 where
 
 abbrev pub RefusesMargins : MarginRefused → Type 0
 RefusesMargins s =
-    marginCall s.of.block (replicate s.of.work 7) (replicate s.of.out 7) (replicate s.margins 7)
+    margin_call s.of.block (replicate s.of.work 7) (replicate s.of.out 7) (replicate s.margins 7)
     ≡ record {
       number = s.of.number;
       second = s.of.second;
@@ -91,8 +91,8 @@ thirteen s needed margins =
 
 -- P1 with one number too few, and with none; P2 with m numbers; P3, which has no reads; a block of version 2; then 11, which P1 gets with a run that is
 -- too short as well, and with one that suffices
-abbrev pub marginRefusals : List MarginRefused
-marginRefusals =
+abbrev pub margin_refusals : List MarginRefused
+margin_refusals =
     thirteen p1 4 3
     ∷ thirteen p1 4 0
     ∷ thirteen p2 6 3
@@ -102,6 +102,6 @@ marginRefusals =
     ∷ record { of = r11; margins = 4 }
     ∷ []
 
-pub margin-refusals-hold : All RefusesMargins marginRefusals
+pub margin_refusals_hold : All RefusesMargins margin_refusals
 unfolding opened
-margin-refusals-hold = (refl, (refl, (refl, (refl, (refl, (refl, (refl, tt)))))))
+margin_refusals_hold = (refl, (refl, (refl, (refl, (refl, (refl, (refl, tt)))))))

@@ -12,19 +12,19 @@ sum_to zero f = 0
 sum_to (suc n) f = sum_to n f + f n
 
 -- the largest of f 0 .. f (n - 1), 0 if there is none
-unfoldable pub maxTo : ℕ → (ℕ → ℕ) → ℕ
-maxTo zero f = 0
-maxTo (suc n) f = max (maxTo n f) (f n)
+unfoldable pub max_to : ℕ → (ℕ → ℕ) → ℕ
+max_to zero f = 0
+max_to (suc n) f = max (max_to n f) (f n)
 
 -- the least of f 0 .. f n
-unfoldable pub minTo : ℕ → (ℕ → ℕ) → ℕ
-minTo zero f = f 0
-minTo (suc n) f = min (minTo n f) (f (suc n))
+unfoldable pub min_to : ℕ → (ℕ → ℕ) → ℕ
+min_to zero f = f 0
+min_to (suc n) f = min (min_to n f) (f (suc n))
 
 -- whether f passes at one of 0 .. n - 1
-unfoldable pub anyTo : ℕ → (ℕ → Bool) → Bool
-anyTo zero f = false
-anyTo (suc n) f = anyTo n f || f n
+unfoldable pub any_to : ℕ → (ℕ → Bool) → Bool
+any_to zero f = false
+any_to (suc n) f = any_to n f || f n
 
 module _ {A : Type 0} where
   -- f i, f (i + 1), .., n of them
@@ -47,15 +47,15 @@ has q [] = false
 has q (r ∷ rs) = eqb q r || has q rs
 
 -- big-endian: the number of the n bytes from i on
-unfoldable pub bigEndian : ℕ → List ℕ → ℕ → ℕ
-bigEndian zero b i = 0
-bigEndian (suc n) b i = bigEndian n b i * 256 + get_or b (i + n) 0
+unfoldable pub big_endian : ℕ → List ℕ → ℕ → ℕ
+big_endian zero b i = 0
+big_endian (suc n) b i = big_endian n b i * 256 + get_or b (i + n) 0
 
 abbrev pub word : List ℕ → ℕ → ℕ
-word b i = bigEndian 2 b i
+word b i = big_endian 2 b i
 
 abbrev pub long : List ℕ → ℕ → ℕ
-long b i = bigEndian 4 b i
+long b i = big_endian 4 b i
 
 -- and back: the n lowest bytes of x
 unfoldable pub bytes_of : ℕ → ℕ → List ℕ

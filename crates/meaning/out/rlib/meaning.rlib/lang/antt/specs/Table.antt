@@ -4,9 +4,9 @@ use mathlib.Core.List.{List, [], ◌∷◌, ◌++◌, tail}
 use Rattle.meaning.specs.Numbers.{run}
 use Rattle.meaning.specs.Block.{Matrix}
 use Rattle.meaning.specs.Active.{used, entries}
-use Rattle.meaning.specs.Closing.{activeReads, otherReads}
-use Rattle.meaning.specs.Division.{Division, leastOver}
-use Rattle.meaning.specs.Charge.{Charge, costTo}
+use Rattle.meaning.specs.Closing.{active_reads, other_reads}
+use Rattle.meaning.specs.Division.{Division, least_over}
+use Rattle.meaning.specs.Charge.{Charge, cost_to}
 
 -- the reads of the list on the sides that the binary digits 0, 1, .. of k give, every other read on side 0
 unfoldable pub spread : List ℕ → ℕ → Division
@@ -20,20 +20,20 @@ pattern rs k = spread (tail rs) k
 module _ (C : Charge) where
   -- document 000's C(j, ·): the least sum of charges of columns 0 to j over all divisions that agree with d on column j's active reads
   unfoldable pub value : Matrix → ℕ → Division → ℕ
-  value M j d = leastOver (otherReads M j) (costTo C M (suc j)) d
+  value M j d = least_over (other_reads M j) (cost_to C M (suc j)) d
 
   -- entry k of column j
   unfoldable pub entry : Matrix → ℕ → ℕ → ℕ
-  entry M j k = value M j (pattern (activeReads M j) k)
+  entry M j k = value M j (pattern (active_reads M j) k)
 
   -- column j's T entries: those that stand for a division, then zeros
   unfoldable pub column : Matrix → ℕ → List ℕ
-  column M j = run 0 (entries M) (λ k. cond (ltb k (used (length (activeReads M j)))) (entry M j k) 0)
+  column M j = run 0 (entries M) (λ k. cond (ltb k (used (length (active_reads M j)))) (entry M j k) 0)
 
   -- columns 0 to j - 1, one after the other
-  unfoldable pub columnsTo : Matrix → ℕ → List ℕ
-  columnsTo M zero = []
-  columnsTo M (suc j) = columnsTo M j ++ column M j
+  unfoldable pub columns_to : Matrix → ℕ → List ℕ
+  columns_to M zero = []
+  columns_to M (suc j) = columns_to M j ++ column M j
 
   unfoldable pub table : Matrix → List ℕ
-  table M = columnsTo M M.columns
+  table M = columns_to M M.columns

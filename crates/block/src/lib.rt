@@ -8,7 +8,7 @@ ghost use Rattle.header.specs.Header.{Sized};
 ghost use Rattle.block.specs.Answers.{checked_numbers, CheckedSizes};
 
 // The checks 1 to 8 and 38 of a block: the two numbers of a refusal, or the shape of its reads.
-#[derive(Drop)]
+#[derive(Clone, Copy)]
 pub enum Verdict {
     Refused { number: u32, second: u32 },
     Passed(layout::Shape),

@@ -16,7 +16,7 @@ pub const ANY: usize = 3;
 pub const MIXED: usize = 4;
 
 // What the blocks of a kind are like.
-#[derive(Drop)]
+#[derive(Clone, Copy)]
 pub struct Shape {
     pub version: usize,
     spread: usize,
@@ -109,7 +109,7 @@ pub fn some_shape(state: &mut u32) -> Shape {
 }
 
 // The columns that a read may lie in.
-#[derive(Drop)]
+#[derive(Clone, Copy)]
 struct Span {
     from: usize,
     room: usize,

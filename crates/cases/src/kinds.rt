@@ -7,7 +7,7 @@ use crate::generate::{Shape, generate};
 use fields::Bytes;
 
 // What the blocks of a kind are like, the field that is damaged in them, and how many are tried.
-#[derive(Drop)]
+#[derive(Clone, Copy)]
 pub struct Kind {
     pub shape: Shape,
     pub field: u8,

@@ -12,7 +12,7 @@ ghost use Rattle.column.specs.Walk.{level_at};
 mod walk;
 
 // What the walk starts from: the four sums of index 0, side 0's first, raised by the mode's level, and the whole of that level.
-#[derive(Drop)]
+#[derive(Clone, Copy)]
 struct Begun {
     a: u32,
     b: u32,

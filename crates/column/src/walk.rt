@@ -33,14 +33,14 @@ fn digit(n: usize) -> usize
 }
 
 // What all steps of a column share: how many active reads it has, and the mode, by whose level its sums are raised.
-#[derive(Drop)]
+#[derive(Clone, Copy)]
 pub struct Column {
     pub p: usize,
     pub heterozygous: bool,
 }
 
 // Where the walk stands: the number of the next step, the index of the last one, and its index on the shared reads.
-#[derive(Drop)]
+#[derive(Clone, Copy)]
 struct Stand {
     n: usize,
     k: usize,

@@ -12,14 +12,14 @@ ghost use Rattle.convert.specs.Walked.{bytes_to, kept_to, head_bytes};
 ghost use Rattle.convert.specs.Outcomes.{conversion_of, writing};
 
 // How many reads have cells, and the bytes that they take in version 2.
-#[derive(Drop)]
+#[derive(Clone, Copy)]
 pub struct Kept {
     pub count: usize,
     pub bytes: usize,
 }
 
 // What comes of a conversion: the two numbers of a refusal of the block, no room, with the bytes needed, or the block is written.
-#[derive(Drop)]
+#[derive(Clone, Copy)]
 pub enum Outcome {
     Refused { number: u32, second: u32 },
     Room(u32),

@@ -7,7 +7,7 @@ use fields::byte;
 pub type Table = [u32; 16385];
 
 // How much of each room is lent.
-#[derive(Drop)]
+#[derive(Clone, Copy)]
 pub struct Rooms {
     pub work: usize,
     pub out: usize,

@@ -8,14 +8,14 @@ use crate::rooms::Table;
 use fields::plus;
 
 // The first of the cheapest divisions, by its place in closing order.
-#[derive(Drop)]
+#[derive(Clone, Copy)]
 pub struct Best {
     pub place: usize,
     pub cost: u32,
 }
 
 // The entry that a division agrees with at a column; none where it has the first active read on side 1.
-#[derive(Drop)]
+#[derive(Clone, Copy)]
 enum Place {
     At(usize),
     Nowhere,

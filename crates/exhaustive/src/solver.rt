@@ -10,7 +10,7 @@ use crate::search::{Best, divide, doubled, spot, walk};
 use fields::{long, word};
 
 // What the checks 1 to 9 give; if none applies, m, n, T and what both rooms need.
-#[derive(Drop)]
+#[derive(Clone, Copy)]
 pub struct Sizes {
     pub number: usize,
     pub second: usize,

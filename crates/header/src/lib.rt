@@ -7,7 +7,7 @@ ghost use Rattle.meaning.specs.Refusals.{header_refusal};
 ghost use Rattle.header.specs.Header.{size_of, header_number, HeaderSizes};
 
 // What a header says: which of the checks 1 to 4 applies, or the shape of its reads.
-#[derive(Drop)]
+#[derive(Clone, Copy)]
 pub enum Header {
     Short,
     Version,

@@ -7,7 +7,7 @@ ghost use Rattle.layout.specs.Reads.{CellSize};
 ghost use Rattle.layout.specs.Places.{start_at, first_at, end_at};
 
 // The bytes of a cell, the columns m and the reads n.
-#[derive(Drop)]
+#[derive(Clone, Copy)]
 pub struct Shape {
     pub size: usize,
     pub m: usize,

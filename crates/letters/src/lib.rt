@@ -13,14 +13,14 @@ ghost use Rattle.tally.specs.Tally.{Tallied};
 ghost use Rattle.letters.specs.Lettered.{Lettered};
 
 // How far apart the two sums are that each side's letter is chosen from.
-#[derive(Drop)]
+#[derive(Clone, Copy)]
 pub struct Margins {
     pub first: u32,
     pub second: u32,
 }
 
 // The letters that are reported of the two sides at a column, how many entries differ from their side's letter, and the margins.
-#[derive(Drop)]
+#[derive(Clone, Copy)]
 pub struct Letters {
     pub first: u8,
     pub second: u8,

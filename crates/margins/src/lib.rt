@@ -14,7 +14,7 @@ ghost use Rattle.solve.specs.Rooms.{Rooms};
 ghost use Rattle.margins.specs.Outcomes.{result_of};
 
 // What is found in reads that pass the checks 5 to 8: 9 with the column, 10, 11 or 13 with the size needed, or the cost.
-#[derive(Drop)]
+#[derive(Clone, Copy)]
 pub enum Outcome {
     Crowded(u32),
     Work(u32),

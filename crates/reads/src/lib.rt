@@ -9,7 +9,7 @@ ghost use Rattle.reads.specs.Search.{head_number, head_fault, HeadPlace, search_
 ghost use Rattle.reads.specs.Cells.{faulty_cell};
 
 // What stands before a read's cells: 5, 38, 6, or where its cells start and end.
-#[derive(Drop)]
+#[derive(Clone, Copy)]
 pub enum Head {
     Length,
     Empty,
@@ -18,7 +18,7 @@ pub enum Head {
 }
 
 // What the search through the reads finds: 5, 38, 6 or 7 with the read, or where the reads end.
-#[derive(Drop)]
+#[derive(Clone, Copy)]
 pub enum Search {
     Length(usize),
     Empty(usize),

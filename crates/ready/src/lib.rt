@@ -11,7 +11,7 @@ ghost use Rattle.layout.specs.Ready.{Ready};
 ghost use Rattle.ready.specs.Piling.{Piling, ThinColumns, ColumnsFound};
 
 // Check 9: the first column that has more than 12 active reads, or T.
-#[derive(Drop)]
+#[derive(Clone, Copy)]
 pub enum Crowding {
     Crowded(u32),
     Thin(usize),

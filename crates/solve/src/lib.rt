@@ -11,7 +11,7 @@ ghost use Rattle.solve.specs.Rooms.{Rooms};
 ghost use Rattle.solve.specs.Outcomes.{result_of};
 
 // What the solver finds in reads that pass the checks 5 to 8: 9 with the column, 10 or 11 with the size needed, or the cost.
-#[derive(Drop)]
+#[derive(Clone, Copy)]
 pub enum Outcome {
     Crowded(u32),
     Work(u32),

@@ -10,7 +10,7 @@ ghost use Rattle.layout.specs.Reads.{matrix_in};
 ghost use Rattle.stated.specs.Stated.{Sized, StatedTally, Stands, dash_of, against_of, other_of, other_letters};
 
 // One side of a column: its two sums, and the builder's letter.
-#[derive(Drop)]
+#[derive(Clone, Copy)]
 pub struct SideAt {
     pub w0: u32,
     pub w1: u32,
@@ -18,7 +18,7 @@ pub struct SideAt {
 }
 
 // Both sides of a column.
-#[derive(Drop)]
+#[derive(Clone, Copy)]
 pub struct ColumnAt {
     pub first: SideAt,
     pub second: SideAt,

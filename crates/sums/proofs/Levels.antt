@@ -1,5 +1,5 @@
 -- With its level a column's charge is the mode's, and the whole level above it.
-use Prim.Native.Nat.{ℕ, ◌+◌, ◌-◌, ◌≤◌}
+use Prim.Native.Nat.{ℕ, ◌+◌, ◌≤◌}
 use mathlib.Core.Bool.{Bool, true, false}
 use mathlib.Core.Path.{◌≡◌}
 use native.Mathlib.Omega.{arith}

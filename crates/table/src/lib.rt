@@ -29,7 +29,7 @@ fn take_over(lists: &[u16], j: usize, t: usize, s: usize, work: &[u32], taken: &
 }
 
 // Which column, how many entries a column has, and how it is charged.
-#[derive(Drop)]
+#[derive(Clone, Copy)]
 struct Place {
     j: usize,
     t: usize,

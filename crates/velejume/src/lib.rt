@@ -14,7 +14,7 @@ ghost use Rattle.solve.specs.Outcomes.{outcome_number, outcome_second};
 ghost use Rattle.verdict.specs.Judgements.{judgement_number, judgement_second};
 
 // The number that a call returns, and its second number.
-#[derive(Drop)]
+#[derive(Clone, Copy)]
 pub struct Numbers {
     pub number: u32,
     pub second: u32,

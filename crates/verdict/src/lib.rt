@@ -9,7 +9,7 @@ ghost use Rattle.verdict.specs.Judgements.{judgement_numbers};
 ghost use Rattle.verdict.specs.Stages.{Filled, Marked};
 
 // The refusals 9 with the column and 10 with the size needed, and the verdicts 50 to 57, 55 with the least cost.
-#[derive(Drop)]
+#[derive(Clone, Copy)]
 pub enum Judgement {
     Crowded(u32),
     Work(u32),

@@ -1,0 +1,79 @@
+use native.Mathlib.Omega.{arith}
+use Prim.Native.Nat.{◌+◌, ◌*◌, ◌%◌, ◌^◌, ◌<◌}
+use lib.Bits.{bit_xor}
+use lib.ListN.{get_or}
+use mathlib.Core.Path.{◌≡◌, ap}
+use Rattle.plain.proofs.Laws.{one_shl}
+use Rattle.column.specs.Walk.{level_at, At}
+use Rattle.column.proofs.Steps.{used-small, digit_below, step_movable, step_at, at-fits, walked_step}
+use Rattle.column.proofs.walk.step.Goals as goal
+
+pub overflow_add-d : goal.overflow_add-d
+overflow_add-d c =
+    let small : c.args.d + 1 < 12 = omega (arith, digit_below c.requires, c.requires.walked.at.few) in
+    omega (arith, small)
+
+pub offset_bounds-w-d : goal.offset_bounds-w-d
+offset_bounds-w-d c =
+    let small : c.args.d + 1 < 12 = omega (arith, digit_below c.requires, c.requires.walked.at.few) in
+    omega (arith, small)
+
+pub bounds-w-d : goal.bounds-w-d
+bounds-w-d c =
+    let small : c.args.d + 1 < 12 = omega (arith, digit_below c.requires, c.requires.walked.at.few) in
+    omega (arith, small)
+
+pub moved-t-requires : goal.moved-t-requires
+moved-t-requires c = step_movable c.requires
+
+pub overflow_shl-to : goal.overflow_shl-to
+overflow_shl-to c =
+    let small : c.args.d + 1 < 12 = omega (arith, digit_below c.requires, c.requires.walked.at.few) in
+    omega (arith, small)
+
+pub overflow_add-folded : goal.overflow_add-folded
+overflow_add-folded c =
+    let small : c.args.d + 1 < 12 = omega (arith, digit_below c.requires, c.requires.walked.at.few) in
+    omega (arith, small)
+
+pub offset_bounds-turn-d : goal.offset_bounds-turn-d
+offset_bounds-turn-d c =
+    let small : c.args.d + 1 < 12 = omega (arith, digit_below c.requires, c.requires.walked.at.few) in
+    omega (arith, small)
+
+pub bounds-turn-d : goal.bounds-turn-d
+bounds-turn-d c =
+    let small : c.args.d + 1 < 12 = omega (arith, digit_below c.requires, c.requires.walked.at.few) in
+    omega (arith, small)
+
+pub entry-requires : goal.entry-requires
+entry-requires c =
+    let small : c.args.d + 1 < 12 = omega (arith, digit_below c.requires, c.requires.walked.at.few) in
+    let turned : bit_xor c.args.x.k (1 * 2 ^ c.args.d % 2 ^ 64) ≡ bit_xor c.args.x.k (2 ^ c.args.d) = ap (bit_xor c.args.x.k) (one_shl c.args.d (omega (arith, small))) in
+    let next : At c.args.w.now c.args.turn.now c.args.c.p (level_at c.args.c.heterozygous c.args.w.now c.args.c.p) c.args.taken.now c.moved-t.result
+    (bit_xor c.args.x.k (1 * 2 ^ c.args.d % 2 ^ 64)) (bit_xor c.args.x.q (get_or c.args.turn.now (c.args.d + 1) 0)) = step_at c.requires _ turned _ c.moved-t.ensures in
+    at-fits next
+
+pub offset_bounds-part-to : goal.offset_bounds-part-to
+offset_bounds-part-to c =
+    let small : c.args.d + 1 < 12 = omega (arith, digit_below c.requires, c.requires.walked.at.few) in
+    let turned : bit_xor c.args.x.k (1 * 2 ^ c.args.d % 2 ^ 64) ≡ bit_xor c.args.x.k (2 ^ c.args.d) = ap (bit_xor c.args.x.k) (one_shl c.args.d (omega (arith, small))) in
+    let next : At c.args.w.now c.args.turn.now c.args.c.p (level_at c.args.c.heterozygous c.args.w.now c.args.c.p) c.args.taken.now c.moved-t.result
+    (bit_xor c.args.x.k (1 * 2 ^ c.args.d % 2 ^ 64)) (bit_xor c.args.x.q (get_or c.args.turn.now (c.args.d + 1) 0)) = step_at c.requires _ turned _ c.moved-t.ensures in
+    let h = next in omega (arith, h.below, used-small _ h.few)
+
+pub bounds-part-to : goal.bounds-part-to
+bounds-part-to c =
+    let small : c.args.d + 1 < 12 = omega (arith, digit_below c.requires, c.requires.walked.at.few) in
+    let turned : bit_xor c.args.x.k (1 * 2 ^ c.args.d % 2 ^ 64) ≡ bit_xor c.args.x.k (2 ^ c.args.d) = ap (bit_xor c.args.x.k) (one_shl c.args.d (omega (arith, small))) in
+    let next : At c.args.w.now c.args.turn.now c.args.c.p (level_at c.args.c.heterozygous c.args.w.now c.args.c.p) c.args.taken.now c.moved-t.result
+    (bit_xor c.args.x.k (1 * 2 ^ c.args.d % 2 ^ 64)) (bit_xor c.args.x.q (get_or c.args.turn.now (c.args.d + 1) 0)) = step_at c.requires _ turned _ c.moved-t.ensures in
+    omega (arith, next.below, c.requires.walked.inside)
+
+pub returns : goal.returns
+returns c =
+    let small : c.args.d + 1 < 12 = omega (arith, digit_below c.requires, c.requires.walked.at.few) in
+    let turned : bit_xor c.args.x.k (1 * 2 ^ c.args.d % 2 ^ 64) ≡ bit_xor c.args.x.k (2 ^ c.args.d) = ap (bit_xor c.args.x.k) (one_shl c.args.d (omega (arith, small))) in
+    let next : At c.args.w.now c.args.turn.now c.args.c.p (level_at c.args.c.heterozygous c.args.w.now c.args.c.p) c.args.taken.now c.moved-t.result
+    (bit_xor c.args.x.k (1 * 2 ^ c.args.d % 2 ^ 64)) (bit_xor c.args.x.q (get_or c.args.turn.now (c.args.d + 1) 0)) = step_at c.requires _ turned _ c.moved-t.ensures in
+    walked_step c.requires _ turned next _ c.entry.ensures

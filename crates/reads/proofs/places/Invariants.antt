@@ -1,0 +1,18 @@
+use borrow.Author.Rules.{rules}
+use native.Mathlib.Omega.{arith}
+use mathlib.Core.Path.{◌≡◌, refl, ap, ap₂, ◌∙◌}
+use Prim.Native.Nat.{ℕ, ◌+◌, ◌-◌, ◌*◌, ◌/◌, ◌≤◌, ◌<◌}
+use lib.ListN.{length}
+use lib.Seq.{lt-length-set}
+use Rattle.meaning.specs.Active.{read, end}
+use Rattle.layout.specs.Reads.{matrix_in}
+use Rattle.layout.specs.Places.{read_start}
+use Rattle.reads.proofs.PlacesNoted.{lt_two_set, Upto, upto_none, upto_more, stored_length, Here, here}
+use Rattle.reads.proofs.places.Given as goal
+
+-- `places` meets its contract. The reads passed are noted, and the next one stands at `at`.
+abbrev pub invariant-loop-r : goal.invariant-loop-r
+invariant-loop-r l = (l.r ≤ l.shape.n) × (l.at ≡ read_start l.reads l.r) × (l.at ≤ 65537 * l.r) × (length l.places ≡ length l.initial.places) × Upto l.shape l.reads l.places l.r
+
+abbrev pub decreases-loop-r : goal.decreases-loop-r
+decreases-loop-r l = l.shape.n - l.r

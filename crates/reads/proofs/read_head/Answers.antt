@@ -1,0 +1,123 @@
+use borrow.Author.Rules.{rules}
+use native.Mathlib.Omega.{arith}
+use native.Mathlib.Nat.{div-le_self, mul-le-mul_right}
+use mathlib.Core.List.{List}
+use mathlib.Core.Logic.{⊎_elim}
+use mathlib.Core.Path.{◌≡◌, sym, ap, ◌∙◌}
+use Prim.Native.Nat.{ℕ, ◌+◌, ◌-◌, ◌*◌, ◌/◌, ◌%◌, ◌≤◌}
+use lib.ListN.{length, drop, length-drop}
+use Rattle.meaning.specs.Block.{length_field, first_field, cell_count}
+use Rattle.meaning.proofs.ReadChecks.{NotRetired}
+use Rattle.layout.proofs.Fields.{length_field_lem, first_field_lem}
+use Rattle.reads.proofs.HeadChecks.{left_by, cut_off, too_small, unfilled, too_long, good_length, emptied, misplaced, too_far, well_placed, cells_lie}
+use Rattle.reads.proofs.read_head.Goals as goal
+
+pub returns-then-reads-at-lt2 : goal.returns-then-reads-at-lt2
+returns-then-reads-at-lt2 c =
+    let a = c.args in
+    record { result_value = cut_off _ _ _ (omega (arith, length-drop a.at a.reads.now)); head_place = tt }
+
+pub returns-then-len-lt2 : goal.returns-then-len-lt2
+returns-then-len-lt2 c =
+    let from : List ℕ = drop c.args.at c.args.reads.now in
+    let length_is : length_field from ≡ c.word_at-len.result = let a = c.args in length_field_lem a.reads.now a.at ∙ sym c.word_at-len.ensures.0 in
+    record { result_value = too_small _ _ _ (omega (arith, length_is)); head_place = tt }
+
+pub cells_in-count-requires : goal.cells_in-count-requires
+cells_in-count-requires c = c.requires.1.0
+
+pub overflow_mul-size : goal.overflow_mul-size
+overflow_mul-size c =
+    let k = c.cells_in-count in
+    omega (arith, k.ensures, div-le_self (c.word_at-len.result - 2) c.args.shape.size, mul-le-mul_right k.result c.requires.1.0.1)
+
+pub returns-then-size-count : goal.returns-then-size-count
+returns-then-size-count c =
+    let from : List ℕ = drop c.args.at c.args.reads.now in
+    let length_is : length_field from ≡ c.word_at-len.result = let a = c.args in length_field_lem a.reads.now a.at ∙ sym c.word_at-len.ensures.0 in
+    let s = c.args.shape in
+    let count = c.cells_in-count.ensures ∙ ap (λ (l : ℕ). (l - 2) / s.size) (sym length_is) in
+    record { result_value = unfilled _ _ _ (λ e. c.if-size-count.true (ap (λ (k : ℕ). s.size * k) count ∙ e ∙ ap (λ (l : ℕ). l - 2) length_is)); head_place = tt }
+
+pub returns-then-reads-at : goal.returns-then-reads-at
+returns-then-reads-at c =
+    let from : List ℕ = drop c.args.at c.args.reads.now in
+    let from_length : let a = c.args in length from ≡ length a.reads.now - a.at = let a = c.args in length-drop a.at a.reads.now in
+    let length_is : length_field from ≡ c.word_at-len.result = let a = c.args in length_field_lem a.reads.now a.at ∙ sym c.word_at-len.ensures.0 in
+    record { result_value = too_long _ _ _ (omega (arith, length_is, from_length)); head_place = tt }
+
+pub returns-then-size-eq3 : goal.returns-then-size-eq3
+returns-then-size-eq3 c =
+    let from : List ℕ = drop c.args.at c.args.reads.now in
+    let rest : List ℕ = from in
+    let size : ℕ = c.args.shape.size in
+    let from_length : let a = c.args in length from ≡ length a.reads.now - a.at = let a = c.args in length-drop a.at a.reads.now in
+    let length_is : length_field from ≡ c.word_at-len.result = let a = c.args in length_field_lem a.reads.now a.at ∙ sym c.word_at-len.ensures.0 in
+    let count_is : cell_count size rest ≡ c.cells_in-count.result = ap (λ (l : ℕ). (l - 2) / size) length_is ∙ sym c.cells_in-count.ensures in
+    let some : 2 ≤ length_field rest = omega (arith, length_is) in
+    let whole : (length_field rest - 2) % size ≡ 0 = left_by size (length_field rest - 2)
+    (ap (λ (k : ℕ). size * k) count_is ∙ c.if-size-count.false ∙ ap (λ (l : ℕ). l - 2) (sym length_is)) in
+    let inside : 2 + length_field rest ≤ length rest = omega (arith, length_is, from_length) in
+    record { result_value = emptied _ _ _ some whole inside c.if-size-eq3.true (count_is ∙ c.if-count-eq0.true); head_place = tt }
+
+pub returns-then-first-ne0 : goal.returns-then-first-ne0
+returns-then-first-ne0 c =
+    let from : List ℕ = drop c.args.at c.args.reads.now in
+    let rest : List ℕ = from in
+    let size : ℕ = c.args.shape.size in
+    let from_length : let a = c.args in length from ≡ length a.reads.now - a.at = let a = c.args in length-drop a.at a.reads.now in
+    let length_is : length_field from ≡ c.word_at-len.result = let a = c.args in length_field_lem a.reads.now a.at ∙ sym c.word_at-len.ensures.0 in
+    let first_is : first_field rest ≡ c.word_at-first.result = let a = c.args in
+    first_field_lem a.reads.now a.at ∙ sym c.word_at-first.ensures.0 in
+    let count_is : cell_count size rest ≡ c.cells_in-count.result = ap (λ (l : ℕ). (l - 2) / size) length_is ∙ sym c.cells_in-count.ensures in
+    let some : 2 ≤ length_field rest = omega (arith, length_is) in
+    let whole : (length_field rest - 2) % size ≡ 0 = left_by size (length_field rest - 2)
+    (ap (λ (k : ℕ). size * k) count_is ∙ c.if-size-count.false ∙ ap (λ (l : ℕ). l - 2) (sym length_is)) in
+    let inside : 2 + length_field rest ≤ length rest = omega (arith, length_is, from_length) in
+    record { result_value = misplaced _ _ _ some whole inside c.if-size-eq3.false (count_is ∙ c.if-count-eq0.true) (λ e. c.if-first-ne0.true (sym first_is ∙ e)); head_place = tt }
+
+pub overflow_add-first : goal.overflow_add-first
+overflow_add-first c =
+    let size : ℕ = c.args.shape.size in
+    omega (arith, c.cells_in-count.ensures, div-le_self (c.word_at-len.result - 2) size)
+
+pub returns-then-first-count : goal.returns-then-first-count
+returns-then-first-count c =
+    let from : List ℕ = drop c.args.at c.args.reads.now in
+    let rest : List ℕ = from in
+    let size : ℕ = c.args.shape.size in
+    let from_length : let a = c.args in length from ≡ length a.reads.now - a.at = let a = c.args in length-drop a.at a.reads.now in
+    let length_is : length_field from ≡ c.word_at-len.result = let a = c.args in length_field_lem a.reads.now a.at ∙ sym c.word_at-len.ensures.0 in
+    let first_is : first_field rest ≡ c.word_at-first.result = let a = c.args in
+    first_field_lem a.reads.now a.at ∙ sym c.word_at-first.ensures.0 in
+    let count_is : cell_count size rest ≡ c.cells_in-count.result = ap (λ (l : ℕ). (l - 2) / size) length_is ∙ sym c.cells_in-count.ensures in
+    let some : 2 ≤ length_field rest = omega (arith, length_is) in
+    let whole : (length_field rest - 2) % size ≡ 0 = left_by size (length_field rest - 2)
+    (ap (λ (k : ℕ). size * k) count_is ∙ c.if-size-count.false ∙ ap (λ (l : ℕ). l - 2) (sym length_is)) in
+    let inside : 2 + length_field rest ≤ length rest = omega (arith, length_is, from_length) in
+    let beyond : NotRetired size rest × (cell_count size rest ≡ 0 → first_field rest ≡ 0) = (
+      λ z e. ⊎_elim (λ v. v.1.left z) (λ v. v.left (sym count_is ∙ e)) c.if-count-eq0.branch,
+      λ e. ⊎_elim (λ v. first_is ∙ v.2.left) (λ v. absurd (v.left (sym count_is ∙ e))) c.if-count-eq0.branch,
+    ) in
+    record { result_value = too_far _ _ _ some whole inside beyond.0 (omega (arith, count_is, first_is)); head_place = tt }
+
+pub returns : goal.returns
+returns c =
+    let from : List ℕ = drop c.args.at c.args.reads.now in
+    let rest : List ℕ = from in
+    let size : ℕ = c.args.shape.size in
+    let from_length : let a = c.args in length from ≡ length a.reads.now - a.at = let a = c.args in length-drop a.at a.reads.now in
+    let length_is : length_field from ≡ c.word_at-len.result = let a = c.args in length_field_lem a.reads.now a.at ∙ sym c.word_at-len.ensures.0 in
+    let first_is : first_field rest ≡ c.word_at-first.result = let a = c.args in
+    first_field_lem a.reads.now a.at ∙ sym c.word_at-first.ensures.0 in
+    let count_is : cell_count size rest ≡ c.cells_in-count.result = ap (λ (l : ℕ). (l - 2) / size) length_is ∙ sym c.cells_in-count.ensures in
+    let some : 2 ≤ length_field rest = omega (arith, length_is) in
+    let whole : (length_field rest - 2) % size ≡ 0 = left_by size (length_field rest - 2)
+    (ap (λ (k : ℕ). size * k) count_is ∙ c.if-size-count.false ∙ ap (λ (l : ℕ). l - 2) (sym length_is)) in
+    let inside : 2 + length_field rest ≤ length rest = omega (arith, length_is, from_length) in
+    let beyond : NotRetired size rest × (cell_count size rest ≡ 0 → first_field rest ≡ 0) = (
+      λ z e. ⊎_elim (λ v. v.1.left z) (λ v. v.left (sym count_is ∙ e)) c.if-count-eq0.branch,
+      λ e. ⊎_elim (λ v. first_is ∙ v.2.left) (λ v. absurd (v.left (sym count_is ∙ e))) c.if-count-eq0.branch,
+    ) in
+    let good = good_length _ _ some whole inside in
+    let b = beyond in record { result_value = well_placed _ _ _ some whole inside b.0 b.1 (omega (arith, count_is, first_is)); head_place = cells_lie _ _ c.args.at _ c.requires.0 length_is good }

@@ -1,18 +1,16 @@
 use borrow.Author.Rules.{rules}
 use native.Mathlib.Omega.{arith}
-use mathlib.Core.Bool.{false}
 use mathlib.Core.List.{List}
 use mathlib.Core.Path.{◌≡◌, sym, ap, ◌∙◌, subst}
-use Prim.Native.Nat.{ℕ, ◌-◌, ◌≤◌, ◌<◌}
-use lib.ListN.{length, drop}
+use Prim.Native.Nat.{ℕ, ◌≤◌, ◌<◌}
+use lib.ListN.{drop}
 use Rattle.meaning.specs.Numbers.{any_to}
 use Rattle.layout.specs.declared.Shape.{Shape}
 use Rattle.layout.specs.Reads.{CellSize}
 use Rattle.layout.proofs.Tests.{none_more}
 use Rattle.reads.specs.Search.{head_number, head_fault, CellsLie}
-use Rattle.reads.specs.Cells.{faulty_cell}
 use Rattle.reads.proofs.Walk.{head_stop, cell_below, cell-inside, faulty_read, sound-read}
-use Rattle.reads.proofs.Walk.{Left, left_all, left_stop, left_on, left_none, left_end}
+use Rattle.reads.proofs.Walk.{left_all, left_stop, left_on, left_none, left_end}
 use Rattle.reads.proofs.first_fault.Goals as goal
 
 pub reads-init : goal.reads-init
@@ -124,3 +122,7 @@ returns-then-cell_bad c =
     let f = sym c.cell_bad.ensures ∙ c.if-cell_bad.true in
     let e = faulty_read _ some _ w.at _ _ lies _ passes i below f in
     record { result_value = left_stop _ _ w.at w.r w.invariant.2 7 l e (omega arith); search_end = l }
+
+pub loop-i-init : goal.loop-i-init
+unfolding any_to
+loop-i-init c = search rules

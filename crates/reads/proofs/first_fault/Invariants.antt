@@ -1,18 +1,10 @@
-use borrow.Author.Rules.{rules}
-use native.Mathlib.Omega.{arith}
 use mathlib.Core.Bool.{false}
-use mathlib.Core.List.{List}
-use mathlib.Core.Path.{◌≡◌, sym, ap, ◌∙◌, subst}
-use Prim.Native.Nat.{ℕ, ◌-◌, ◌≤◌, ◌<◌}
-use lib.ListN.{length, drop}
+use mathlib.Core.Path.{◌≡◌}
+use Prim.Native.Nat.{◌-◌, ◌≤◌}
+use lib.ListN.{length}
 use Rattle.meaning.specs.Numbers.{any_to}
-use Rattle.layout.specs.declared.Shape.{Shape}
-use Rattle.layout.specs.Reads.{CellSize}
-use Rattle.layout.proofs.Tests.{none_more}
-use Rattle.reads.specs.Search.{head_number, head_fault, CellsLie}
 use Rattle.reads.specs.Cells.{faulty_cell}
-use Rattle.reads.proofs.Walk.{head_stop, cell_below, cell-inside, faulty_read, sound-read}
-use Rattle.reads.proofs.Walk.{Left, left_all, left_stop, left_on, left_none, left_end}
+use Rattle.reads.proofs.Walk.{Left}
 use Rattle.reads.proofs.first_fault.Given as goal
 
 -- `first_fault` meets its contract. Of the cells passed none is faulty; of the reads passed, what is left gives what all give.

@@ -1,13 +1,13 @@
 use borrow.Author.Rules.{rules}
 use native.Mathlib.Omega.{arith}
 use mathlib.Core.Path.{◌≡◌, refl, ap, ap₂, ◌∙◌}
-use Prim.Native.Nat.{ℕ, ◌+◌, ◌-◌, ◌*◌, ◌/◌, ◌≤◌, ◌<◌}
+use Prim.Native.Nat.{ℕ, ◌+◌, ◌-◌, ◌*◌, ◌/◌, ◌<◌}
 use lib.ListN.{length}
 use lib.Seq.{lt-length-set}
 use Rattle.meaning.specs.Active.{read, end}
 use Rattle.layout.specs.Reads.{matrix_in}
 use Rattle.layout.specs.Places.{read_start}
-use Rattle.reads.proofs.PlacesNoted.{lt_two_set, Upto, upto_none, upto_more, stored_length, Here, here}
+use Rattle.reads.proofs.PlacesNoted.{lt_two_set, upto_none, upto_more, stored_length, Here, here}
 use Rattle.reads.proofs.places.Goals as goal
 
 pub loop-r-init : goal.loop-r-init
@@ -156,7 +156,6 @@ shape_of-places c = omega arith
 
 pub returns : goal.returns
 returns c =
-    let room : let l = c.loop-r in 3 * l.r + 2 < length l.places = omega arith in
     let w = c.loop-r in
     record {
       room = omega arith;

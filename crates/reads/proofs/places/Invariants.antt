@@ -1,13 +1,8 @@
-use borrow.Author.Rules.{rules}
-use native.Mathlib.Omega.{arith}
-use mathlib.Core.Path.{◌≡◌, refl, ap, ap₂, ◌∙◌}
-use Prim.Native.Nat.{ℕ, ◌+◌, ◌-◌, ◌*◌, ◌/◌, ◌≤◌, ◌<◌}
+use mathlib.Core.Path.{◌≡◌}
+use Prim.Native.Nat.{◌-◌, ◌*◌, ◌≤◌}
 use lib.ListN.{length}
-use lib.Seq.{lt-length-set}
-use Rattle.meaning.specs.Active.{read, end}
-use Rattle.layout.specs.Reads.{matrix_in}
 use Rattle.layout.specs.Places.{read_start}
-use Rattle.reads.proofs.PlacesNoted.{lt_two_set, Upto, upto_none, upto_more, stored_length, Here, here}
+use Rattle.reads.proofs.PlacesNoted.{Upto}
 use Rattle.reads.proofs.places.Given as goal
 
 -- `places` meets its contract. The reads passed are noted, and the next one stands at `at`.

@@ -1,8 +1,6 @@
-use borrow.Author.Rules.{rules}
 use native.Mathlib.Omega.{arith}
 use native.Mathlib.Nat.{div-le_self, mul-le-mul_right}
 use mathlib.Core.List.{List}
-use mathlib.Core.Logic.{⊎_elim}
 use mathlib.Core.Path.{◌≡◌, sym, ap, ◌∙◌}
 use Prim.Native.Nat.{ℕ, ◌+◌, ◌-◌, ◌*◌, ◌/◌, ◌%◌, ◌≤◌}
 use lib.ListN.{length, drop, length-drop}
@@ -11,6 +9,7 @@ use Rattle.meaning.proofs.ReadChecks.{NotRetired}
 use Rattle.layout.proofs.Fields.{length_field_lem, first_field_lem}
 use Rattle.reads.proofs.HeadChecks.{left_by, cut_off, too_small, unfilled, too_long, good_length, emptied, misplaced, too_far, well_placed, cells_lie}
 use Rattle.reads.proofs.read_head.Goals as goal
+use Rattle.reads.proofs.read_head.Goals.{then-count-eq0+else-size-eq3+else-first-ne0, else-count-eq0}
 
 pub returns-then-reads-at-lt2 : goal.returns-then-reads-at-lt2
 returns-then-reads-at-lt2 c =
@@ -95,10 +94,10 @@ returns-then-first-count c =
     let whole : (length_field rest - 2) % size ≡ 0 = left_by size (length_field rest - 2)
     (ap (λ (k : ℕ). size * k) count_is ∙ c.if-size-count.false ∙ ap (λ (l : ℕ). l - 2) (sym length_is)) in
     let inside : 2 + length_field rest ≤ length rest = omega (arith, length_is, from_length) in
-    let beyond : NotRetired size rest × (cell_count size rest ≡ 0 → first_field rest ≡ 0) = (
-      λ z e. ⊎_elim (λ v. v.1.left z) (λ v. v.left (sym count_is ∙ e)) c.if-count-eq0.branch,
-      λ e. ⊎_elim (λ v. first_is ∙ v.2.left) (λ v. absurd (v.left (sym count_is ∙ e))) c.if-count-eq0.branch,
-    ) in
+    let beyond : NotRetired size rest × (cell_count size rest ≡ 0 → first_field rest ≡ 0) = elim c.if-count-eq0.branch [
+      then-count-eq0+else-size-eq3+else-first-ne0 w ↦ (λ z e. w.if-size-eq3.false z, λ e. first_is ∙ w.if-first-ne0.false)
+      | else-count-eq0 w ↦ (λ z e. w.if-count-eq0.false (sym count_is ∙ e), λ e. absurd (w.if-count-eq0.false (sym count_is ∙ e)))
+    ] in
     record { result_value = too_far _ _ _ some whole inside beyond.0 (omega (arith, count_is, first_is)); head_place = tt }
 
 pub returns : goal.returns
@@ -115,9 +114,9 @@ returns c =
     let whole : (length_field rest - 2) % size ≡ 0 = left_by size (length_field rest - 2)
     (ap (λ (k : ℕ). size * k) count_is ∙ c.if-size-count.false ∙ ap (λ (l : ℕ). l - 2) (sym length_is)) in
     let inside : 2 + length_field rest ≤ length rest = omega (arith, length_is, from_length) in
-    let beyond : NotRetired size rest × (cell_count size rest ≡ 0 → first_field rest ≡ 0) = (
-      λ z e. ⊎_elim (λ v. v.1.left z) (λ v. v.left (sym count_is ∙ e)) c.if-count-eq0.branch,
-      λ e. ⊎_elim (λ v. first_is ∙ v.2.left) (λ v. absurd (v.left (sym count_is ∙ e))) c.if-count-eq0.branch,
-    ) in
+    let beyond : NotRetired size rest × (cell_count size rest ≡ 0 → first_field rest ≡ 0) = elim c.if-count-eq0.branch [
+      then-count-eq0+else-size-eq3+else-first-ne0 w ↦ (λ z e. w.if-size-eq3.false z, λ e. first_is ∙ w.if-first-ne0.false)
+      | else-count-eq0 w ↦ (λ z e. w.if-count-eq0.false (sym count_is ∙ e), λ e. absurd (w.if-count-eq0.false (sym count_is ∙ e)))
+    ] in
     let good = good_length _ _ some whole inside in
     let b = beyond in record { result_value = well_placed _ _ _ some whole inside b.0 b.1 (omega (arith, count_is, first_is)); head_place = cells_lie _ _ c.args.at _ c.requires.0 length_is good }

@@ -1,11 +1,8 @@
 use borrow.Author.Rules.{rules}
-use Prim.Native.Nat.{◌+◌, ◌*◌, ◌-◌, ◌≤◌}
 use mathlib.Core.Path.{ap}
 use native.Mathlib.Omega.{arith}
-use lib.ListN.{length, take}
 use lib.Seq.{take_all}
 use Rattle.lines.specs.Line.{run_text}
-use Rattle.lines.specs.Put.{Put}
 use Rattle.lines.proofs.Pieces.{put_none, put-length, put_as, number_put}
 use Rattle.lines.proofs.put_run.Goals as goal
 
@@ -29,7 +26,7 @@ loop-i-preserved c =
     let s = c.args.numbers.now in
     let d = c.put_decimal-end.ensures in
     let t = c.loop-i-test.true in
-    (search rules, omega (arith, c.put_byte-end.ensures.ends, d.1), number_put s l.i t l.invariant.2 c.put_byte-end.ensures d.0)
+    (search rules, omega (arith, c.put_byte-end.ensures.ends, d.upper_bound), number_put s l.i t l.invariant.2 c.put_byte-end.ensures d.put)
 
 pub shape_of-text : goal.shape_of-text
 shape_of-text c = put-length c.loop-i.invariant.2

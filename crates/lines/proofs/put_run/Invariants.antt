@@ -1,12 +1,7 @@
-use borrow.Author.Rules.{rules}
 use Prim.Native.Nat.{◌+◌, ◌*◌, ◌-◌, ◌≤◌}
-use mathlib.Core.Path.{ap}
-use native.Mathlib.Omega.{arith}
 use lib.ListN.{length, take}
-use lib.Seq.{take_all}
 use Rattle.lines.specs.Line.{run_text}
 use Rattle.lines.specs.Put.{Put}
-use Rattle.lines.proofs.Pieces.{put_none, put-length, put_as, number_put}
 use Rattle.lines.proofs.put_run.Given as goal
 
 -- `put_run` meets its contract: the first i are put. Assumes nothing.

@@ -1,8 +1,7 @@
 use borrow.Author.Rules.{rules}
 use native.Mathlib.Omega.{arith}
 use mathlib.Core.Path.{◌≡◌, refl, ap, ◌∙◌}
-use mathlib.Core.Logic.{⊎_elim}
-use Prim.Native.Nat.{ℕ, ◌*◌, ◌-◌, ◌/◌, ◌≤◌}
+use Prim.Native.Nat.{ℕ, ◌-◌, ◌/◌}
 use lib.ListN.{length}
 use Rattle.meaning.specs.Block.{Matrix}
 use Rattle.meaning.specs.Active.{read}
@@ -11,6 +10,7 @@ use Rattle.layout.specs.Places.{read_start}
 use Rattle.convert.specs.Walked.{bytes_to, kept_to}
 use Rattle.convert.proofs.Walk.{This, this, bytes_skip, bytes_take}
 use Rattle.convert.proofs.kept_in.Goals as goal
+use Rattle.convert.proofs.kept_in.Goals.{then-c-gt0, else-c-gt0}
 
 pub loop-r-init : goal.loop-r-init
 unfolding read_start bytes_to kept_to
@@ -93,10 +93,10 @@ loop-r-preserved c =
     let h = t.here in
     let v = c.word_at-len.ensures in
     let k = cells_are in
-    ⊎_elim
-    (λ w. let s = bytes_take M l.r (omega arith) in (omega arith, omega arith, omega arith, omega arith, omega arith, omega arith, omega arith))
-    (λ w. let s = bytes_skip M l.r (omega arith) in (omega arith, omega arith, omega arith, omega arith, omega arith, omega (arith, ap length s.0), omega arith))
-    c.if-c-gt0.branch
+    elim c.if-c-gt0.branch [
+      | then-c-gt0 w ↦ let s = bytes_take M l.r (omega arith) in (omega arith, omega arith, omega arith, omega arith, omega arith, omega arith, omega arith)
+      | else-c-gt0 w ↦ let s = bytes_skip M l.r (omega arith) in (omega arith, omega arith, omega arith, omega arith, omega arith, omega (arith, ap length s.0), omega arith)
+    ]
 
 pub returns : goal.returns
 returns c =

@@ -1,15 +1,9 @@
-use borrow.Author.Rules.{rules}
-use native.Mathlib.Omega.{arith}
-use mathlib.Core.Path.{◌≡◌, refl, ap, ◌∙◌}
-use mathlib.Core.Logic.{⊎_elim}
-use Prim.Native.Nat.{ℕ, ◌*◌, ◌-◌, ◌/◌, ◌≤◌}
+use mathlib.Core.Path.{◌≡◌}
+use Prim.Native.Nat.{◌*◌, ◌-◌, ◌≤◌}
 use lib.ListN.{length}
-use Rattle.meaning.specs.Block.{Matrix}
-use Rattle.meaning.specs.Active.{read}
 use Rattle.layout.specs.Reads.{matrix_in}
 use Rattle.layout.specs.Places.{read_start}
 use Rattle.convert.specs.Walked.{bytes_to, kept_to}
-use Rattle.convert.proofs.Walk.{This, this, bytes_skip, bytes_take}
 use Rattle.convert.proofs.kept_in.Given as goal
 
 -- `kept_in` meets its contract: of the reads passed those with cells are counted, and their bytes.

@@ -1,4 +1,3 @@
-use borrow.Author.Rules.{rules}
 use native.Mathlib.Omega.{arith}
 use mathlib.Core.Path.{◌≡◌, sym, ap, ◌∙◌}
 use mathlib.Core.List.{List}
@@ -41,11 +40,10 @@ pub returns : goal.returns
 returns c =
     let count_is : let a = c.args in c.cells_in-c.result ≡ (word a.reads.now a.at - 2) / a.size = let a = c.args in
     c.cells_in-c.ensures ∙ ap (λ (l : ℕ). (l - 2) / a.size) c.word_at-len.ensures.0 in
-    let s = c in
-    let a = s.args in
+    let a = c.args in
     let part : List ℕ = cells_from a.reads.now a.at c.word_at-len.result in
     c.put_cells.ensures
     ∙ ap (laid (a.to + 4) (cells_bytes (run 0 (length part / a.size) (cell_at a.size part))))
     (c.put_word-2.ensures ∙ ap (laid (a.to + 2) (bytes_of 2 c.word_at-first.result)) c.put_word.ensures)
     ∙ (λ i. parts_laid a.size a.reads.now a.at a.out.now a.to (c.word_at-len.ensures.0 i) (count_is i) (c.word_at-first.ensures.0 i))
-    ∙ read-laid a.size a.reads.now a.at s.requires.0.1.0 s.requires.0.1.1 a.out.now a.to s.requires.1
+    ∙ read-laid a.size a.reads.now a.at c.requires.cell_size.1.0 c.requires.cell_size.1.1 a.out.now a.to c.requires.size_in_bounds

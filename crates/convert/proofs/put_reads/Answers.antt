@@ -2,7 +2,6 @@ use borrow.Author.Rules.{rules}
 use native.Mathlib.Omega.{arith}
 use mathlib.Core.Path.{◌≡◌, refl, sym, ap, ap₂, ◌∙◌}
 use mathlib.Core.List.{List}
-use mathlib.Core.Logic.{⊎_elim}
 use Prim.Native.Nat.{ℕ, ◌+◌, ◌*◌, ◌-◌, ◌/◌, ◌≤◌, ◌<◌}
 use lib.ListN.{length}
 use Rattle.meaning.specs.Block.{Read, Matrix}
@@ -14,6 +13,7 @@ use Rattle.layout.specs.Places.{read_start}
 use Rattle.convert.specs.Walked.{bytes_to}
 use Rattle.convert.proofs.Walk.{This, this, bytes_skip, bytes_take, bytes_below, reads_none, reads_more}
 use Rattle.convert.proofs.put_reads.Goals as goal
+use Rattle.convert.proofs.put_reads.Goals.{then-cells-gt0, else-cells-gt0}
 
 pub loop-r-init : goal.loop-r-init
 unfolding read_start bytes_to
@@ -128,24 +128,24 @@ loop-r-preserved c =
     let v = c.word_at-len.ensures in
     let k = cells_are in
     let m = bytes_below M l.r a.shape.n (omega arith) in
-    ⊎_elim
-    (λ w. let some : 0 < length (read M l.r).cells = omega arith in let t2 = bytes_take M l.r some in (
-      omega arith,
-      omega arith,
-      omega arith,
-      omega (arith, w.6, t2.2),
-      omega (arith, ap length w.5, w.2.kept),
-      w.5 ∙ w.2.ensures ∙ ap₂ (λ (r : Read) (x : List ℕ). laid l.to (read_bytes r) x) (sym t.is) l.invariant.5 ∙ reads_more M a.out.now l.r l.to some l.invariant.3 (omega arith),
-    ))
-    (λ w. let t2 = bytes_skip M l.r (omega arith) in (
-      omega arith,
-      omega arith,
-      omega arith,
-      omega (arith, w.2, ap length t2.0),
-      ap length w.1 ∙ l.invariant.4,
-      w.1 ∙ l.invariant.5 ∙ ap (λ (x : List ℕ). laid 9 x a.out.now) (sym t2.0),
-    ))
-    c.if-cells-gt0.branch
+    elim c.if-cells-gt0.branch [
+      | then-cells-gt0 w ↦ let some : 0 < length (read M l.r).cells = omega arith in let t2 = bytes_take M l.r some in (
+        omega arith,
+        omega arith,
+        omega arith,
+        omega (arith, w.to-is, t2.2),
+        omega (arith, ap length w.out-is, w.put_read.auto.out),
+        w.out-is ∙ w.put_read.ensures ∙ ap₂ (λ (r : Read) (x : List ℕ). laid l.to (read_bytes r) x) (sym t.is) l.invariant.5 ∙ reads_more M a.out.now l.r l.to some l.invariant.3 (omega arith),
+      )
+      | else-cells-gt0 w ↦ let t2 = bytes_skip M l.r (omega arith) in (
+        omega arith,
+        omega arith,
+        omega arith,
+        omega (arith, w.to-is, ap length t2.0),
+        ap length w.out-is ∙ l.invariant.4,
+        w.out-is ∙ l.invariant.5 ∙ ap (λ (x : List ℕ). laid 9 x a.out.now) (sym t2.0),
+      )
+    ]
 
 pub shape_of-out : goal.shape_of-out
 shape_of-out c = c.loop-r.invariant.4

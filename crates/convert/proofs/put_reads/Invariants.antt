@@ -1,18 +1,10 @@
-use borrow.Author.Rules.{rules}
-use native.Mathlib.Omega.{arith}
-use mathlib.Core.Path.{◌≡◌, refl, sym, ap, ap₂, ◌∙◌}
-use mathlib.Core.List.{List}
-use mathlib.Core.Logic.{⊎_elim}
-use Prim.Native.Nat.{ℕ, ◌+◌, ◌*◌, ◌-◌, ◌/◌, ◌≤◌, ◌<◌}
+use mathlib.Core.Path.{◌≡◌}
+use Prim.Native.Nat.{◌+◌, ◌*◌, ◌-◌, ◌≤◌}
 use lib.ListN.{length}
-use Rattle.meaning.specs.Block.{Read, Matrix}
-use Rattle.meaning.specs.Active.{read}
 use Rattle.meaning.specs.Call.{laid}
-use Rattle.meaning.specs.Convert.{read_bytes}
 use Rattle.layout.specs.Reads.{matrix_in}
 use Rattle.layout.specs.Places.{read_start}
 use Rattle.convert.specs.Walked.{bytes_to}
-use Rattle.convert.proofs.Walk.{This, this, bytes_skip, bytes_take, bytes_below, reads_none, reads_more}
 use Rattle.convert.proofs.put_reads.Given as goal
 
 -- `put_reads` meets its contract: of the reads passed those with cells are laid one after the other.

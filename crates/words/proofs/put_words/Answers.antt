@@ -1,4 +1,3 @@
-use borrow.Author.Rules.{rules}
 use Prim.Native.Nat.{ℕ}
 use mathlib.Core.Path.{◌≡◌, sym, ap}
 use mathlib.Core.List.{List, []}
@@ -7,6 +6,7 @@ use Rattle.lines.specs.Put.{Put}
 use Rattle.lines.specs.Line.{line}
 use Rattle.words.specs.Words.{ours_words, verdict_words}
 use Rattle.lines.proofs.Pieces.{put_as}
+use native.Mathlib.Omega.{arith}
 use Rattle.words.proofs.put_words.Goals as goal
 
 -- `put_words` meets its contract: the words of each verdict. Assumes nothing.
@@ -51,6 +51,5 @@ returns-in-56 c = said 56 c.in-56.is c.put_bytes-in-56.ensures
 
 pub returns-in_default : goal.returns-in_default
 returns-in_default c =
-    let r = c.in_default.rest in
     put_as c.put_bytes-in_default.ensures _
-    (ours_is _ r.0.0.0.0.0.0.1 r.0.0.0.0.0.1 r.0.0.0.0.1 r.0.0.0.1 r.0.0.1 r.0.1 r.1)
+    (ours_is _ (λ e. omega arith) (λ e. omega arith) (λ e. omega arith) (λ e. omega arith) (λ e. omega arith) (λ e. omega arith) (λ e. omega arith))

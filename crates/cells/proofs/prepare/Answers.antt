@@ -1,4 +1,3 @@
-use borrow.Author.Rules.{rules}
 use native.Mathlib.Omega.{arith}
 use mathlib.Core.Path.{◌≡◌, ap, ◌∙◌}
 use Prim.Native.Nat.{ℕ, ◌+◌, ◌-◌, ◌*◌, ◌≤◌, ◌<◌}
@@ -6,14 +5,12 @@ use lib.Dec.{ltb}
 use lib.Pow.{pow_pos}
 use lib.ListN.{length, get_or, length-set}
 use Rattle.meaning.specs.Numbers.{bit}
-use Rattle.meaning.specs.Active.{read, at}
-use Rattle.layout.specs.Reads.{matrix_in}
 use Rattle.layout.specs.Places.{first_at}
 use Rattle.fold.specs.Turn.{starts_before}
 use Rattle.fold.proofs.Count.{bit_lt, count_le}
 use Rattle.fold.proofs.Masks.{Masks, masks_none, masks_more, masks_all}
 use Rattle.sums.specs.Sums.{pair_of}
-use Rattle.cells.proofs.Pairs.{PairsTo, pairs_none, pairs_more}
+use Rattle.cells.proofs.Pairs.{pairs_none, pairs_more}
 use Rattle.cells.proofs.Cells.{Here, taken_cell, listed-room, here_listed}
 use Rattle.cells.proofs.prepare.Goals as goal
 
@@ -124,7 +121,7 @@ loop-i-preserved c =
     let shared = c.begun-b.ensures ∙ ap (λ (n : ℕ). bit (ltb n c.args.j)) f in (
       omega (arith, c.loop-i-test.true),
       simp length-set l.invariant.1,
-      pairs_more _ l.i _ _ _ (omega (arith, l.invariant.1)) l.invariant.2 (x.0 ∙ ap pair_of k.2) x.1,
+      pairs_more _ l.i _ _ _ (omega (arith, l.invariant.1)) l.invariant.2 (x.value ∙ ap pair_of k.2) x.l_bound,
       masks_more _ l.turn l.seen l.head l.i _ _ _ below shared c.lead-head.ensures c.own.ensures l.invariant.3,
     )
 

@@ -1,14 +1,11 @@
-use borrow.Author.Rules.{rules}
 use native.Mathlib.Omega.{arith}
-use mathlib.Core.Path.{◌≡◌, refl}
-use Prim.Native.Nat.{◌+◌, ◌-◌, ◌*◌, ◌≤◌, ◌<◌}
+use mathlib.Core.Path.{refl}
+use Prim.Native.Nat.{◌+◌, ◌*◌, ◌≤◌, ◌<◌}
 use lib.ListN.{length}
-use Rattle.meaning.specs.Answer.{division_of}
 use Rattle.meaning.proofs.Bounds.{Bytes}
-use Rattle.layout.specs.Reads.{matrix_in}
 use Rattle.layout.proofs.Laws.{lawful-light}
 use Rattle.layout.proofs.Cuts.{Cut}
-use Rattle.tally.proofs.Walk.{cleared, cut_read, Upto, upto_none, upto_more, upto_small, tallied_all}
+use Rattle.tally.proofs.Walk.{cleared, cut_read, upto_none, upto_more, upto_small, tallied_all}
 use Rattle.tally.proofs.tally.Goals as goal
 
 pub loop-r-init : goal.loop-r-init
@@ -61,7 +58,7 @@ slice_bounds-cells-end c =
 
 pub tally_read-requires : goal.tally_read-requires
 tally_read-requires c =
-    let bytes : Bytes c.args.reads.now = λ i. let h = (c.shared_slice_known-1.given i).fits in omega arith in
+    let bytes : Bytes c.args.reads.now = λ i. let h = (c.type_inv.reads i).fits in omega arith in
     let enough : let a = c.args in 4 * a.shape.m ≤ length c.loop-r.tally = omega (arith, c.requires.n_in_bounds.1, c.loop-r.invariant.1, c.clear.auto) in
     let cut : let a = c.args in
     Cut a.shape a.reads.now c.loop-r.r c.start_of-s.result c.first_of-f.result c.end_of-t.result = cut_read c.requires.lawful.0 c.requires.lawful.1 c.loop-r.r c.loop-r-test.true _ _ _
@@ -86,7 +83,7 @@ loop-r-preserved c =
 
 pub returns : goal.returns
 returns c =
-    let bytes : Bytes c.args.reads.now = λ i. let h = (c.shared_slice_known-1.given i).fits in omega arith in
+    let bytes : Bytes c.args.reads.now = λ i. let h = (c.type_inv.reads i).fits in omega arith in
     let enough : let a = c.args in 4 * a.shape.m ≤ length c.loop-r.tally = omega (arith, c.requires.n_in_bounds.1, c.loop-r.invariant.1, c.clear.auto) in
     let a = c.args in
     tallied_all a.shape a.reads.now a.sides.now c.loop-r.tally c.requires.lawful.0 bytes c.requires.thin enough c.loop-r.r (omega arith)

@@ -1,14 +1,9 @@
-use borrow.Author.Rules.{rules}
-use native.Mathlib.Omega.{arith}
-use mathlib.Core.Path.{◌≡◌, refl}
-use Prim.Native.Nat.{◌+◌, ◌-◌, ◌*◌, ◌≤◌, ◌<◌}
+use mathlib.Core.Path.{◌≡◌}
+use Prim.Native.Nat.{◌-◌, ◌≤◌}
 use lib.ListN.{length}
 use Rattle.meaning.specs.Answer.{division_of}
-use Rattle.meaning.proofs.Bounds.{Bytes}
 use Rattle.layout.specs.Reads.{matrix_in}
-use Rattle.layout.proofs.Laws.{lawful-light}
-use Rattle.layout.proofs.Cuts.{Cut}
-use Rattle.tally.proofs.Walk.{cleared, cut_read, Upto, upto_none, upto_more, upto_small, tallied_all}
+use Rattle.tally.proofs.Walk.{Upto}
 use Rattle.tally.proofs.tally.Given as goal
 
 abbrev pub invariant-loop-r : goal.invariant-loop-r

@@ -1,16 +1,9 @@
-use borrow.Author.Rules.{rules}
-use native.Mathlib.Omega.{arith}
-use mathlib.Core.Bool.{false}
-use mathlib.Core.Path.{◌≡◌, refl, sym, subst}
-use Prim.Native.Nat.{ℕ, ◌+◌, ◌-◌, ◌*◌, ◌%◌, ◌≤◌, ◌<◌}
-use lib.ListN.{length, length-set}
-use Rattle.meaning.specs.Block.{cell_at}
-use Rattle.meaning.specs.Refusals.{bad_cell}
+use mathlib.Core.Path.{◌≡◌}
+use Prim.Native.Nat.{◌+◌, ◌-◌, ◌*◌, ◌≤◌}
+use lib.ListN.{length}
 use Rattle.layout.specs.Places.{read_from}
-use Rattle.layout.proofs.Laws.{cell-fits}
 use Rattle.sums.specs.Sums.{side_of}
 use Rattle.tally.specs.Tally.{ReadAdded}
-use Rattle.tally.proofs.Turns.{Stored, letter-known, cell_more, cell_room, none_added}
 use Rattle.tally.proofs.tally_read.Given as goal
 
 abbrev pub invariant-loop-i : goal.invariant-loop-i

@@ -1,12 +1,8 @@
-use borrow.Author.Rules.{rules}
-use native.Mathlib.Omega.{arith}
 use Prim.Native.Nat.{◌-◌}
-use mathlib.Core.Path.{◌∙◌}
 use Rattle.layout.specs.Reads.{matrix_in}
 use Rattle.meaning.specs.Judge.{false_dash_at}
-use Rattle.stated.specs.Stated.{dash_of}
-use Rattle.stated.proofs.Searched.{Searched, searched_none, searched_all}
-use Rattle.stated.proofs.AtColumn.{dash_at, dash_columns, either_side, found_first, found_second, found_neither}
+use Rattle.stated.proofs.Searched.{Searched}
+use Rattle.stated.proofs.AtColumn.{either_side}
 use Rattle.stated.proofs.false_dash.Given as goal
 
 abbrev pub invariant-loop-j : goal.invariant-loop-j

@@ -1,11 +1,9 @@
-use borrow.Author.Rules.{rules}
 use native.Mathlib.Omega.{arith}
-use Prim.Native.Nat.{◌-◌}
 use mathlib.Core.Path.{◌∙◌}
 use Rattle.layout.specs.Reads.{matrix_in}
 use Rattle.stated.specs.Stated.{other_of, other_letter_at}
-use Rattle.stated.proofs.Searched.{Searched, searched_none, searched_all}
-use Rattle.stated.proofs.AtColumn.{other_at, other-columns, either_side, found_first, found_second, found_neither}
+use Rattle.stated.proofs.Searched.{searched_none, searched_all}
+use Rattle.stated.proofs.AtColumn.{other_at, other-columns, found_first, found_second, found_neither}
 use Rattle.stated.proofs.other_letters.Goals as goal
 
 pub loop-j-init : goal.loop-j-init

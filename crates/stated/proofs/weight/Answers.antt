@@ -1,6 +1,5 @@
-use borrow.Author.Rules.{rules}
 use native.Mathlib.Omega.{arith}
-use Prim.Native.Nat.{◌+◌, ◌-◌, ◌≤◌}
+use Prim.Native.Nat.{◌+◌, ◌≤◌}
 use mathlib.Core.Path.{refl}
 use Rattle.layout.specs.Reads.{matrix_in}
 use Rattle.stated.proofs.Weighing.{WeighedTo, weight-small, weighed_none, weighed_more, weighed_all}

@@ -1,9 +1,6 @@
-use borrow.Author.Rules.{rules}
-use native.Mathlib.Omega.{arith}
-use Prim.Native.Nat.{◌+◌, ◌-◌, ◌≤◌}
-use mathlib.Core.Path.{refl}
+use Prim.Native.Nat.{◌-◌}
 use Rattle.layout.specs.Reads.{matrix_in}
-use Rattle.stated.proofs.Weighing.{WeighedTo, weight-small, weighed_none, weighed_more, weighed_all}
+use Rattle.stated.proofs.Weighing.{WeighedTo}
 use Rattle.stated.proofs.weight.Given as goal
 
 abbrev pub invariant-loop-j : goal.invariant-loop-j

@@ -1,4 +1,3 @@
-use borrow.Author.Rules.{rules}
 use Rattle.stated.proofs.Weighing.{cost_told}
 use Rattle.stated.proofs.wrong_cost.Goals as goal
 

@@ -1,4 +1,3 @@
-use borrow.Author.Rules.{rules}
 use mathlib.Core.Path.{◌≡◌, sym, ◌∙◌}
 use Rattle.meaning.specs.Judge.{other_counts}
 use Rattle.layout.specs.Reads.{matrix_in}

@@ -1,4 +1,3 @@
-use borrow.Author.Rules.{rules}
 use native.Mathlib.Omega.{arith}
 use mathlib.Core.Path.{◌≡◌}
 use Rattle.meaning.specs.Charge.{charge, least_cost}
@@ -29,7 +28,7 @@ false_dash-requires c =
     record { stated_tally = tallied; sized = c.requires.sized.0 }
 
 pub returns-then-false_dash : goal.returns-then-false_dash
-returns-then-false_dash c = gives_53 _ c.args.answer.now c.requires.sized.1 _ c.false_dash.ensures c.if-false_dash.taken
+returns-then-false_dash c = gives_53 _ c.args.answer.now c.requires.sized.1 _ c.false_dash.ensures c.if-false_dash.true
 
 pub wrong_cost-requires : goal.wrong_cost-requires
 wrong_cost-requires c =
@@ -37,7 +36,7 @@ wrong_cost-requires c =
     record { stated_tally = tallied; sized = c.requires.sized.0 }
 
 pub returns-then-wrong_cost : goal.returns-then-wrong_cost
-returns-then-wrong_cost c = gives_54 _ c.args.answer.now c.requires.sized.1 _ c.false_dash.ensures c.if-false_dash.left _ c.wrong_cost.ensures c.if-wrong_cost.taken
+returns-then-wrong_cost c = gives_54 _ c.args.answer.now c.requires.sized.1 _ c.false_dash.ensures c.if-false_dash.false _ c.wrong_cost.ensures c.if-wrong_cost.true
 
 pub least_last-least-requires : goal.least_last-least-requires
 least_last-least-requires c = record { ready = c.requires.filled.ready; t_value = c.requires.filled.entries_are; t_in_bounds = c.requires.filled.room }
@@ -48,8 +47,8 @@ long_at-requires c = omega (arith, c.requires.sized.0.whole)
 pub returns-then-place-long_at : goal.returns-then-place-long_at
 returns-then-place-long_at c =
     let least : let a = c.args in c.least_last-least.result ≡ least_cost charge (matrix_in a.shape a.reads.now) = least-cost _ _ _ _ c.args.t c.args.work.now c.requires.filled _ c.least_last-least.ensures in
-    gives_55 _ c.args.answer.now c.requires.sized.1 _ c.false_dash.ensures c.if-false_dash.left _ c.wrong_cost.ensures c.if-wrong_cost.left
-    _ _ c.long_at.ensures.0 least (omega (arith, c.if-place-long_at.taken, c.place.ensures.0))
+    gives_55 _ c.args.answer.now c.requires.sized.1 _ c.false_dash.ensures c.if-false_dash.false _ c.wrong_cost.ensures c.if-wrong_cost.false
+    _ _ c.long_at.ensures.0 least (omega (arith, c.if-place-long_at.true, c.place.ensures.0))
 
 pub other_answer-requires : goal.other_answer-requires
 other_answer-requires c =
@@ -59,13 +58,13 @@ other_answer-requires c =
 pub returns-then-other_answer : goal.returns-then-other_answer
 returns-then-other_answer c =
     let least : let a = c.args in c.least_last-least.result ≡ least_cost charge (matrix_in a.shape a.reads.now) = least-cost _ _ _ _ c.args.t c.args.work.now c.requires.filled _ c.least_last-least.ensures in
-    let passed : let a = c.args in Least (matrix_in a.shape a.reads.now) a.answer.now = is_least _ c.args.answer.now c.requires.sized.1 _ c.false_dash.ensures c.if-false_dash.left _ c.wrong_cost.ensures c.if-wrong_cost.left
-    _ _ c.long_at.ensures.0 least (omega (arith, c.if-place-long_at.left, c.place.ensures.0)) in
-    gives_56 _ c.args.answer.now passed _ c.other_answer.ensures c.if-other_answer.taken
+    let passed : let a = c.args in Least (matrix_in a.shape a.reads.now) a.answer.now = is_least _ c.args.answer.now c.requires.sized.1 _ c.false_dash.ensures c.if-false_dash.false _ c.wrong_cost.ensures c.if-wrong_cost.false
+    _ _ c.long_at.ensures.0 least (omega (arith, c.if-place-long_at.false, c.place.ensures.0)) in
+    gives_56 _ c.args.answer.now passed _ c.other_answer.ensures c.if-other_answer.true
 
 pub returns : goal.returns
 returns c =
     let least : let a = c.args in c.least_last-least.result ≡ least_cost charge (matrix_in a.shape a.reads.now) = least-cost _ _ _ _ c.args.t c.args.work.now c.requires.filled _ c.least_last-least.ensures in
-    let passed : let a = c.args in Least (matrix_in a.shape a.reads.now) a.answer.now = is_least _ c.args.answer.now c.requires.sized.1 _ c.false_dash.ensures c.if-false_dash.left _ c.wrong_cost.ensures c.if-wrong_cost.left
-    _ _ c.long_at.ensures.0 least (omega (arith, c.if-place-long_at.left, c.place.ensures.0)) in
-    gives_57 _ c.args.answer.now passed _ c.other_answer.ensures c.if-other_answer.left
+    let passed : let a = c.args in Least (matrix_in a.shape a.reads.now) a.answer.now = is_least _ c.args.answer.now c.requires.sized.1 _ c.false_dash.ensures c.if-false_dash.false _ c.wrong_cost.ensures c.if-wrong_cost.false
+    _ _ c.long_at.ensures.0 least (omega (arith, c.if-place-long_at.false, c.place.ensures.0)) in
+    gives_57 _ c.args.answer.now passed _ c.other_answer.ensures c.if-other_answer.false

@@ -16,6 +16,7 @@ end_of-e-requires c = let l = c.loop-i in omega (arith, c.requires.by_index (l.i
 
 pub returns-then-e-after : goal.returns-then-e-after
 returns-then-e-after c =
+    -- what is found of the i-th read
     let ended : let a = c.args in c.end_of-e.result ≡ ends a.list.now a.places.now (c.loop-i.i - 1) = c.end_of-e.ensures ∙ ap (end_at c.args.places.now) c.index-r.ensures.0 in
     let l = c.loop-i in
     let e : l.i - 1 + 1 ≡ l.i = omega arith in

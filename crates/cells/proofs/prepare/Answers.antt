@@ -19,6 +19,7 @@ loop-i-init c = (omega arith, c.requires.w_len.0, pairs_none _ _ _, masks_none _
 
 pub start_of-a-requires : goal.start_of-a-requires
 start_of-a-requires c =
+    -- the i-th read of the list has its three numbers
     let room : 3 * c.index-r.result + 2 < length c.args.places.now = omega (arith, c.index-r.ensures.0, listed-room c.requires.laid c.loop-i.i c.loop-i-test.true) in
     room
 
@@ -34,6 +35,7 @@ end_of-requires c =
 
 pub overflow_sub-e : goal.overflow_sub-e
 overflow_sub-e c =
+    -- and its cell at column j
     let here : let a = c.args in
     Here a.shape a.reads.now (get_or a.list.now c.loop-i.i 0) a.j
     c.start_of-a.result c.first_of-f.result c.end_of.result = here_listed c.requires.laid c.loop-i.i c.loop-i-test.true _ _ _ _
@@ -83,6 +85,7 @@ weights-x-requires c =
 
 pub own-requires : goal.own-requires
 own-requires c =
+    -- the digits that are set, and whether the read is shared
     let few_seen : (c.loop-i.seen < 12) × (c.begun-b.result ≤ 1) = let l = c.loop-i in
     omega (
       arith,

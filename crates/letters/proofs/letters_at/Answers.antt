@@ -15,7 +15,7 @@ overflow_add-result c =
     let w = sums_of c.sums-s.result in
     let mode = mode_of c.args.heterozygous in
     let both = c.letters_of-l.ensures w c.choices-c.ensures in
-    let has = c.shared_slice_known-5-1.given in
+    let has = c.type_inv.tally in
     let x = against-few _ _ _ _ (mode.letter w false) (ap (λ (l : List ℕ). get_or l 0 0) both) c.against-x.ensures (has _).fits (has _).fits in
     let y = against-few _ _ _ _ (mode.letter w true) (ap (λ (l : List ℕ). get_or l 1 0) both) c.against-y.ensures (has _).fits (has _).fits in
     omega (arith, x, y)

@@ -12,6 +12,7 @@ use Rattle.sides.proofs.back_at.Goals as goal
 
 pub overflow_mul-a : goal.overflow_mul-a
 overflow_mul-a c =
+    -- the plain numbers of column j
     let sizes : ColumnSizes c.args.shape c.args.reads.now c.args.places.now c.args.lists.now c.requires.ready c.args.j c.args.t = column_sizes _ _ _ _ c.requires.ready c.args.j c.args.t c.requires.j_lt_m.0 c.requires.j_lt_m.1 in
     omega (arith, sizes)
 
@@ -68,6 +69,7 @@ entries-requires c =
 pub overflow_add-to : goal.overflow_add-to
 overflow_add-to c =
     let sizes : ColumnSizes c.args.shape c.args.reads.now c.args.places.now c.args.lists.now c.requires.ready c.args.j c.args.t = column_sizes _ _ _ _ c.requires.ready c.args.j c.args.t c.requires.j_lt_m.0 c.requires.j_lt_m.1 in
+    -- what entries gives fits the table
     let used-fits : c.entries.result ≤ c.args.t = subst (λ (x : ℕ). x ≤ c.args.t) (sym (c.entries.ensures ∙ ap used c.index-p.ensures.0)) sizes.fits in
     omega (arith, sizes, used-fits)
 
@@ -84,6 +86,7 @@ slice_bounds-settle-end c =
 
 pub settle-requires : goal.settle-requires
 settle-requires c =
+    -- those that go on are the shared reads
     let going : let a = c.args in c.going_on-s.result ≡ length (shared_reads (matrix_in a.shape a.reads.now) a.j) = let w = c.index-p in
     going_is _ _ _ _ c.requires.ready c.args.j c.requires.j_lt_m.0 w.result w.ensures.0 c.going_on-s.result c.going_on-s.ensures in
     let w = c.index-p in

@@ -8,12 +8,14 @@ use Rattle.sides.proofs.least_last.Goals as goal
 
 pub overflow_sub-j : goal.overflow_sub-j
 overflow_sub-j c =
+    -- there is a last column
     let last : (0 < c.args.shape.m) × (c.args.shape.m - 1 < c.args.shape.m) = last_column _ _ _ _ c.requires.ready in
     omega (arith, last)
 
 pub overflow_mul-j : goal.overflow_mul-j
 overflow_mul-j c =
     let last : (0 < c.args.shape.m) × (c.args.shape.m - 1 < c.args.shape.m) = last_column _ _ _ _ c.requires.ready in
+    -- its plain numbers
     let sizes : ColumnSizes c.args.shape c.args.reads.now c.args.places.now c.args.lists.now c.requires.ready (c.args.shape.m - 1) c.args.t = column_sizes _ _ _ _ c.requires.ready (c.args.shape.m - 1) c.args.t last.1 c.requires.t_value in
     omega (arith, sizes)
 
@@ -45,6 +47,7 @@ pub overflow_add-to : goal.overflow_add-to
 overflow_add-to c =
     let last : (0 < c.args.shape.m) × (c.args.shape.m - 1 < c.args.shape.m) = last_column _ _ _ _ c.requires.ready in
     let sizes : ColumnSizes c.args.shape c.args.reads.now c.args.places.now c.args.lists.now c.requires.ready (c.args.shape.m - 1) c.args.t = column_sizes _ _ _ _ c.requires.ready (c.args.shape.m - 1) c.args.t last.1 c.requires.t_value in
+    -- what entries gives fits the table
     let used-fits : c.entries.result ≤ c.args.t = subst (λ (x : ℕ). x ≤ c.args.t) (sym (c.entries.ensures ∙ ap used c.index-p.ensures.0)) sizes.fits in
     omega (arith, sizes, used-fits)
 

@@ -15,6 +15,7 @@ use Rattle.table.proofs.column_by_rule.Goals as goal
 
 pub overflow_mul-a : goal.overflow_mul-a
 overflow_mul-a c =
+    -- the plain numbers of column j
     let sizes : ColumnSizes c.args.shape c.args.reads.now c.args.places.now c.args.lists.now c.requires.ready c.args.at.j c.args.at.t = column_sizes _ _ _ _ c.requires.ready c.args.at.j c.args.at.t c.requires.j_lt_m.0 c.requires.j_lt_m.1 in
     omega (arith, sizes)
 
@@ -58,6 +59,7 @@ prepare-s-requires c = record { laid = cells-laid _ _ _ _ c.requires.ready c.arg
 
 pub take_over-requires : goal.take_over-requires
 take_over-requires c =
+    -- how many reads are shared
     let shared : c.prepare-s.result ≡ length (shared_before (matrix_in c.args.shape c.args.reads.now) c.args.at.j) = let w = c.index-p in
     shared_are _ _ _ _ c.requires.ready c.args.at.j c.requires.j_lt_m.0 w.result w.ensures.0 c.prepare-s.result c.prepare-s.ensures.value in
     handing _ _ _ _ c.requires.ready c.args.at.j c.args.at.t c.prepare-s.result c.requires.j_lt_m.0 c.requires.j_lt_m.1 shared c.args.work.now c.args.taken.now
@@ -87,6 +89,7 @@ pub fill-requires : goal.fill-requires
 fill-requires c =
     let shared : c.prepare-s.result ≡ length (shared_before (matrix_in c.args.shape c.args.reads.now) c.args.at.j) = let w = c.index-p in
     shared_are _ _ _ _ c.requires.ready c.args.at.j c.requires.j_lt_m.0 w.result w.ensures.0 c.prepare-s.result c.prepare-s.ensures.value in
+    -- what is taken over
     let taken : TakenBefore (matrix_in c.args.shape c.args.reads.now) c.args.at.j c.args.work.now c.take_over.new.taken = handed _ _ _ _ c.requires.ready c.args.at.j c.args.at.t c.prepare-s.result c.requires.j_lt_m.0 c.requires.j_lt_m.1 shared c.args.work.now _ c.take_over.ensures in
     let w = c.index-p in
     let g = c.prepare-s in

@@ -14,6 +14,7 @@ loop-j-init c = (omega arith, refl, refl, table_start (charge_in (mode_of c.args
 
 pub column_by_rule-requires : goal.column_by_rule-requires
 column_by_rule-requires c =
+    -- the reads are bytes
     let bytes : Bytes c.args.reads.now = λ i. omega (arith, c.type_inv.reads i) in
     let l = c.loop-j in
     let k = c.loop-j-test.true in record { ready = c.requires.ready; j_lt_m = (k, c.requires.t_value); t_in_bounds = (le_trans c.requires.t_in_bounds.0 (le_of_eq (sym l.invariant.1)), le_trans c.requires.t_in_bounds.1 (le_of_eq (sym l.invariant.2))); k_bound = before_small _ _ _ _ c.requires.ready (mode_of c.args.heterozygous) (mode_fair c.args.heterozygous) bytes l.j k c.args.work.now l.work l.invariant.3; w_len = (l.invariant.4, l.invariant.5) }

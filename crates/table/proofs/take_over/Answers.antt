@@ -38,6 +38,7 @@ before_column {lists} {j} {t} {s} {work} h n =
 
 pub bounds-taken-0 : goal.bounds-taken-0
 bounds-taken-0 c =
+    -- there is room for what is handed on
     let some : 0 < length c.args.taken.now = le_trans (pow_pos (c.args.s - 1)) c.requires.room in
     omega (arith, some)
 
@@ -74,6 +75,7 @@ entries-requires c =
 pub overflow_add-to : goal.overflow_add-to
 overflow_add-to c =
     let before : let a = c.args in Before a.lists.now a.j a.t a.s a.work.now = before_column c.requires c.if-j-eq0.false in
+    -- what entries gives fits the table
     let indexed : used c.index-q.result ≤ c.args.t = subst (λ (x : ℕ). used x ≤ c.args.t) (sym c.index-q.ensures.0) before.fits in
     let used-fits : c.entries.result ≤ c.args.t = subst (λ (x : ℕ). x ≤ c.args.t) (sym c.entries.ensures) indexed in
     omega (arith, before, used-fits)

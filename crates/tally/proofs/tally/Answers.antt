@@ -15,6 +15,7 @@ loop-r-init c =
 
 pub start_of-s-requires : goal.start_of-s-requires
 start_of-s-requires c =
+    -- read r has its three numbers
     let room : 3 * c.loop-r.r + 2 < length c.args.places.now = omega (arith, c.loop-r-test.true, c.requires.lawful.1.room) in
     room
 
@@ -30,6 +31,7 @@ end_of-t-requires c =
 
 pub overflow_sub-e : goal.overflow_sub-e
 overflow_sub-e c =
+    -- and its cells
     let cut : let a = c.args in
     Cut a.shape a.reads.now c.loop-r.r c.start_of-s.result c.first_of-f.result c.end_of-t.result = cut_read c.requires.lawful.0 c.requires.lawful.1 c.loop-r.r c.loop-r-test.true _ _ _
     c.start_of-s.ensures c.first_of-f.ensures c.end_of-t.ensures in
@@ -58,7 +60,9 @@ slice_bounds-cells-end c =
 
 pub tally_read-requires : goal.tally_read-requires
 tally_read-requires c =
+    -- each byte of the reads
     let bytes : Bytes c.args.reads.now = λ i. let h = (c.type_inv.reads i).fits in omega arith in
+    -- the tally has room for each column
     let enough : let a = c.args in 4 * a.shape.m ≤ length c.loop-r.tally = omega (arith, c.requires.n_in_bounds.1, c.loop-r.invariant.1, c.clear.auto) in
     let cut : let a = c.args in
     Cut a.shape a.reads.now c.loop-r.r c.start_of-s.result c.first_of-f.result c.end_of-t.result = cut_read c.requires.lawful.0 c.requires.lawful.1 c.loop-r.r c.loop-r-test.true _ _ _

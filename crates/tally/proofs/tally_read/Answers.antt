@@ -14,7 +14,7 @@ use Rattle.tally.specs.Tally.{unit, ReadAdded}
 use Rattle.tally.proofs.Turns.{Stored, letter-known, cell_more, cell_room, none_added}
 use Rattle.tally.proofs.tally_read.Goals as goal
 
--- where cell i is added, and what
+-- where it is added, and what
 storing : (size : ℕ) (cells : List ℕ) (i from side at letter weight v : ℕ)
     → bad_cell (cell_at size cells i) ≡ false
     → side ≤ 1
@@ -33,6 +33,7 @@ loop-i-init c =
 
 pub overflow_mul-cell : goal.overflow_mul-cell
 overflow_mul-cell c =
+    -- cell i is inside, and good
     let within : let a = c.args in a.size * c.loop-i.i + a.size ≤ length a.cells.now = subst (λ (n : ℕ). c.args.size * c.loop-i.i + c.args.size ≤ n) (sym c.requires.cell_size.2) (cell-fits c.args.size c.loop-i.i _ c.loop-i-test.true) in
     omega (arith, within)
 

@@ -9,7 +9,7 @@ ghost use Rattle.meaning.specs.Margins.{margin_call_on};
 ghost use Rattle.layout.specs.Reads.{matrix_in, Lawful};
 ghost use Rattle.solve.specs.Outcomes.{result_of};
 ghost use Rattle.verdict.specs.Judgements.{judged_of};
-ghost use Rattle.margins.specs.Outcomes as with-margins;
+ghost use Rattle.margins.specs.Outcomes as with_margins;
 
 // Whether there are at most 32 columns and 7 reads: setting up room for more would take longer than solving them.
 fn few(shape: layout::Shape) -> bool
@@ -104,7 +104,7 @@ fn small_margined(
     margins: &mut [u32],
 ) -> margins::Outcome
     requires { Lawful shape reads.now × (shape.m ≤ 32) × (shape.n ≤ 7) }
-    ensures { with-margins.result_of result work.new out.new margins.new
+    ensures { with_margins.result_of result work.new out.new margins.new
         ≡ margin_call_on (matrix_in shape reads.now) work.old out.old margins.old }
 {
     let mut places = [0u32; 21];
@@ -131,7 +131,7 @@ fn large_margined(
     margins: &mut [u32],
 ) -> margins::Outcome
     requires { Lawful shape reads.now }
-    ensures { with-margins.result_of result work.new out.new margins.new
+    ensures { with_margins.result_of result work.new out.new margins.new
         ≡ margin_call_on (matrix_in shape reads.now) work.old out.old margins.old }
 {
     let mut places = [0u32; 3072];
@@ -158,7 +158,7 @@ pub fn margined(
     margins: &mut [u32],
 ) -> margins::Outcome
     requires { Lawful shape reads.now }
-    ensures { with-margins.result_of result work.new out.new margins.new
+    ensures { with_margins.result_of result work.new out.new margins.new
         ≡ margin_call_on (matrix_in shape reads.now) work.old out.old margins.old }
 {
     if few(shape) {

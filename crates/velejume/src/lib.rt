@@ -9,7 +9,7 @@ ghost use Rattle.meaning.specs.Margins.{margin_call};
 ghost use Rattle.meaning.specs.Judge.{judging};
 ghost use Rattle.meaning.specs.Convert.{converting};
 ghost use Rattle.convert.specs.Outcomes.{conversion_number, conversion_second};
-ghost use Rattle.margins.specs.Outcomes as with-margins;
+ghost use Rattle.margins.specs.Outcomes as with_margins;
 ghost use Rattle.solve.specs.Outcomes.{outcome_number, outcome_second};
 ghost use Rattle.verdict.specs.Judgements.{judgement_number, judgement_second};
 
@@ -83,42 +83,6 @@ pub fn phase_heterozygous(block: &[u8], work: &mut [u32], out: &mut [u8]) -> Num
     called(block, true, work, out)
 }
 
-// The same for C: the number is returned, the second number goes to where `second` points.
-#[unsafe(no_mangle)]
-pub extern "C" fn velejume_phase(
-    block: &[u8],
-    work: &mut [u32],
-    out: &mut [u8],
-    second: &mut u32,
-) -> u32
-    ensures value { result ≡ (call block.now work.old out.old).number }
-    ensures second_after { second.new ≡ (call block.now work.old out.old).second }
-    ensures work_after { work.new ≡ (call block.now work.old out.old).work }
-    ensures out_after { out.new ≡ (call block.now work.old out.old).out }
-{
-    let r = phase(block, work, out);
-    *second = r.second;
-    r.number
-}
-
-// The same for C: the number is returned, the second number goes to where `second` points.
-#[unsafe(no_mangle)]
-pub extern "C" fn velejume_phase_heterozygous(
-    block: &[u8],
-    work: &mut [u32],
-    out: &mut [u8],
-    second: &mut u32,
-) -> u32
-    ensures value { result ≡ (heterozygous_call block.now work.old out.old).number }
-    ensures second_after { second.new ≡ (heterozygous_call block.now work.old out.old).second }
-    ensures work_after { work.new ≡ (heterozygous_call block.now work.old out.old).work }
-    ensures out_after { out.new ≡ (heterozygous_call block.now work.old out.old).out }
-{
-    let h = phase_heterozygous(block, work, out);
-    *second = h.second;
-    h.number
-}
-
 // A number with its second number.
 fn both(number: u32, second: u32) -> Numbers
     ensures { (result.number ≡ number) × (result.second ≡ second) }
@@ -131,7 +95,7 @@ fn both(number: u32, second: u32) -> Numbers
 
 // The two numbers of what the solver finds that gives margins too.
 fn told(o: margins::Outcome) -> Numbers
-    ensures { (result.number ≡ with-margins.outcome_number o) × (result.second ≡ with-margins.outcome_second o) }
+    ensures { (result.number ≡ with_margins.outcome_number o) × (result.second ≡ with_margins.outcome_second o) }
 {
     match o {
         margins::Outcome::Crowded(j) => both(9, j),
@@ -159,26 +123,6 @@ pub fn phase_margins(block: &[u8], work: &mut [u32], out: &mut [u8], margins: &m
             told(o)
         }
     }
-}
-
-// The same for C: the number is returned, the second number goes to where `second` points.
-#[unsafe(no_mangle)]
-pub extern "C" fn velejume_phase_margins(
-    block: &[u8],
-    work: &mut [u32],
-    out: &mut [u8],
-    margins: &mut [u32],
-    second: &mut u32,
-) -> u32
-    ensures value { result ≡ (margin_call block.now work.old out.old margins.old).number }
-    ensures second_after { second.new ≡ (margin_call block.now work.old out.old margins.old).second }
-    ensures work_after { work.new ≡ (margin_call block.now work.old out.old margins.old).work }
-    ensures out_after { out.new ≡ (margin_call block.now work.old out.old margins.old).out }
-    ensures margins_after { margins.new ≡ (margin_call block.now work.old out.old margins.old).margins }
-{
-    let m = phase_margins(block, work, out, margins);
-    *second = m.second;
-    m.number
 }
 
 // The two numbers of a judgement.
@@ -216,23 +160,6 @@ pub fn judge(block: &[u8], answer: &[u8], work: &mut [u32]) -> Numbers
     }
 }
 
-// The same for C: the number is returned, the second number goes to where `second` points.
-#[unsafe(no_mangle)]
-pub extern "C" fn velejume_judge(
-    block: &[u8],
-    answer: &[u8],
-    work: &mut [u32],
-    second: &mut u32,
-) -> u32
-    ensures value { result ≡ (judging block.now answer.now work.old).number }
-    ensures second_after { second.new ≡ (judging block.now answer.now work.old).second }
-    ensures work_after { work.new ≡ (judging block.now answer.now work.old).work }
-{
-    let j = judge(block, answer, work);
-    *second = j.second;
-    j.number
-}
-
 // The two numbers of what comes of a conversion.
 fn converted(o: convert::Outcome) -> Numbers
     ensures { (result.number ≡ conversion_number o) × (result.second ≡ conversion_second o) }
@@ -253,16 +180,4 @@ pub fn convert(block: &[u8], out: &mut [u8]) -> Numbers
 {
     let o = convert::convert(block, out);
     converted(o)
-}
-
-// The same for C: the number is returned, the second number goes to where `second` points.
-#[unsafe(no_mangle)]
-pub extern "C" fn velejume_convert(block: &[u8], out: &mut [u8], second: &mut u32) -> u32
-    ensures value { result ≡ (converting block.now out.old).number }
-    ensures second_after { second.new ≡ (converting block.now out.old).second }
-    ensures out_after { out.new ≡ (converting block.now out.old).out }
-{
-    let c = convert(block, out);
-    *second = c.second;
-    c.number
 }

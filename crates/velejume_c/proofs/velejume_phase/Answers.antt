@@ -1,0 +1,4 @@
+use Rattle.velejume_c.proofs.velejume_phase.Goals as goal
+
+pub returns : goal.returns
+returns c = let e = c.phase-r.ensures in record { value = e.number_value; second_after = e.second_value; work_after = e.work_after; out_after = e.out_after }

@@ -125,6 +125,17 @@ fn read_file(rt: &HostRuntime, program: &[u8], path: &[u8], room: &mut [u8]) -> 
     }
 }
 
+// The bytes of argument i, at the start of `room`: how many, 0 if there are more than it takes; or none if there is no such argument.
+pub fn argument(rt: &HostRuntime, i: usize, room: &mut [u8]) -> Option<usize>
+    ensures { IfSome result (λ n. n ≤ length room.old) }
+{
+    match rt.arg(i, room) {
+        Ok(n) => Some(n),
+        Err(FillError::TooLong) => Some(0),
+        Err(FillError::NotPresent) => None,
+    }
+}
+
 // What the system says of an argument that cannot be had.
 fn not_had(error: FillError) -> Error {
     match error {

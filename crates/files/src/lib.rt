@@ -1,97 +1,166 @@
 // What the programs do with files, standard input and standard output. A call that fails is said on standard error, in one line that
-// begins with the program's name. No contract can say what is read or written.
+// begins with the program's name. No contract can say what the system reads or writes.
 #![tactic(auto)]
 
-ghost use Rattle.std.specs.Prelude.{◌<◌, ◌^◌, length};
-ghost use Rattle.libc.specs.Io.{Moved};
+ghost use Rattle.std.specs.Prelude.{◌<◌, ◌≤◌, length, take, IfOk, IfSome};
+ghost use Rattle.std.specs.Io.{StartsWith};
+ghost use Rattle.std.specs.Io.KnownBytes.{Consumes, IsAtEnd};
 
-use libc::{STDERR_FILENO, STDIN_FILENO, STDOUT_FILENO};
+use std::env::{Env, FillError};
+use std::fs::File;
+use std::io::{Cursor, Error, Read, Write};
+use std::{io, str};
+
+// The system's numbers of three errors: there is no such argument, it is too long, and a name that is not UTF-8.
+const EINVAL: i32 = 22;
+
+const ENAMETOOLONG: i32 = 36;
+
+const EILSEQ: i32 = 84;
+
+// A text for standard error. Where that cannot be written there is nobody to tell.
+fn tell(rt: &HostRuntime, text: &[u8]) {
+    let _ = Print::write_all(&rt.stderr(), text);
+}
 
 // Says what went wrong, and why.
-pub fn say(program: &[u8], what: &[u8], why: &[u8]) {
-    io::write_all(STDERR_FILENO, program);
-    io::write_all(STDERR_FILENO, b": ");
-    io::write_all(STDERR_FILENO, what);
-    io::write_all(STDERR_FILENO, b": ");
-    io::write_all(STDERR_FILENO, why);
-    io::write_all(STDERR_FILENO, b"\n");
+pub fn say(rt: &HostRuntime, program: &[u8], what: &[u8], why: &[u8]) {
+    tell(rt, program);
+    tell(rt, b": ");
+    tell(rt, what);
+    tell(rt, b": ");
+    tell(rt, why);
+    tell(rt, b"\n");
 }
 
-// The same just after a call that failed: errno, which a write that succeeds leaves as it is, tells why.
-fn say_failed(program: &[u8], what: &[u8]) {
-    io::write_all(STDERR_FILENO, program);
-    io::write_all(STDERR_FILENO, b": ");
-    os::fail(what);
+// The system's words for an error, without the number that stands behind them in its text.
+fn words(text: &[u8]) -> &[u8]
+    ensures { StartsWith text.now result.now }
+{
+    let Ok(all) = str::from_utf8(text) else {
+        return text;
+    };
+    match all.split_once(" (os error ") {
+        Some((before, _)) => before.as_bytes(),
+        None => text,
+    }
 }
 
-// Reads to the end of the file, in as many parts as it comes in, or until `room` is full: the number of bytes, or -1 if a read fails.
-fn read_all(fd: i32, room: &mut [u8]) -> isize
-    requires { length room.old < 2 ^ 63 }
-    ensures { Moved (length room.old) result }
+// Says what failed, and the system's words why.
+fn fail(rt: &HostRuntime, what: &[u8], error: &Error) {
+    let mut text = Cursor::new([0u8; 256]);
+    let _ = write!(text, "{error}");
+    let length = (text.position() as usize).min(256);
+    let bytes = text.into_inner();
+    tell(rt, what);
+    tell(rt, b": ");
+    tell(rt, words(&bytes[..length]));
+    tell(rt, b"\n");
+}
+
+// The same behind the program's name.
+fn say_failed(rt: &HostRuntime, program: &[u8], what: &[u8], error: &Error) {
+    tell(rt, program);
+    tell(rt, b": ");
+    fail(rt, what, error);
+}
+
+// Reads to the end, in as many parts as it comes in, or until `room` is full: the number of bytes. Where it is known what there is to
+// read, these are its first bytes, and fewer than `room` takes only if there are no more.
+fn read_all<R: Read>(from: &mut R, room: &mut [u8]) -> io::Result<usize>
+    ensures bound { IfOk result (λ n. n ≤ length room.old) }
+    ensures bytes { IfOk result (λ n. Consumes (R.remaining from.old) (R.remaining from.new) (take n room.new)) }
+    ensures end { IfOk result (λ n. n < length room.old → IsAtEnd (R.remaining from.new)) }
 {
     let mut done = 0;
     while done < room.len() {
-        let got = libc::read(fd, &mut room[done..]);
-        if got < 0 {
-            return -1;
-        }
-        let more = io::count(got, &room[done..]);
+        let more = from.read(&mut room[done..])?;
         if more == 0 {
-            return done as isize;
+            return Ok(done);
         }
         done += more;
     }
-    done as isize
+    Ok(done)
 }
 
-// Reads all of standard input, or as much as `room` takes: the number of bytes, or -1 if a read fails. Standard error then says so.
-pub fn read_input(program: &[u8], room: &mut [u8]) -> isize
-    requires { length room.old < 2 ^ 63 }
-    ensures { Moved (length room.old) result }
+// Reads all of standard input, or as much as `room` takes: the number of bytes, or none if a read fails. Standard error then says so.
+pub fn read_input(rt: &HostRuntime, program: &[u8], room: &mut [u8]) -> Option<usize>
+    ensures { IfSome result (λ n. n ≤ length room.old) }
 {
-    let got = read_all(STDIN_FILENO, room);
-    if got < 0 {
-        say_failed(program, b"standard input");
+    match read_all(&mut rt.stdin(), room) {
+        Ok(n) => Some(n),
+        Err(error) => {
+            say_failed(rt, program, b"standard input", &error);
+            None
+        }
     }
-    got
 }
 
-// The same for the file that `path` names.
-fn read_file(program: &[u8], path: &[u8], room: &mut [u8]) -> isize
-    requires { length room.old < 2 ^ 63 }
-    ensures { Moved (length room.old) result }
+// Opens the file that `path` names. A name is UTF-8.
+fn open(rt: &HostRuntime, path: &[u8]) -> io::Result<File> {
+    match str::from_utf8(path) {
+        Ok(name) => File::open(rt, name),
+        Err(_) => Err(Error::from_raw_os_error(EILSEQ)),
+    }
+}
+
+// Reads all of the file that `path` names, or as much as `room` takes.
+fn read_path(rt: &HostRuntime, path: &[u8], room: &mut [u8]) -> io::Result<usize>
+    ensures { IfOk result (λ n. n ≤ length room.old) }
 {
-    let fd = os::open_read(path);
-    if fd < 0 {
-        say_failed(program, path);
-        return -1;
+    let mut file = open(rt, path)?;
+    read_all(&mut file, room)
+}
+
+// The same as `read_input` for the file that `path` names.
+fn read_file(rt: &HostRuntime, program: &[u8], path: &[u8], room: &mut [u8]) -> Option<usize>
+    ensures { IfSome result (λ n. n ≤ length room.old) }
+{
+    match read_path(rt, path, room) {
+        Ok(n) => Some(n),
+        Err(error) => {
+            say_failed(rt, program, path, &error);
+            None
+        }
     }
-    let got = read_all(fd, room);
-    if got < 0 {
-        say_failed(program, path);
+}
+
+// The bytes of argument i, at the start of `room`: how many, 0 if there are more than it takes; or none if there is no such argument.
+pub fn argument(rt: &HostRuntime, i: usize, room: &mut [u8]) -> Option<usize>
+    ensures { IfSome result (λ n. n ≤ length room.old) }
+{
+    match rt.arg(i, room) {
+        Ok(n) => Some(n),
+        Err(FillError::TooLong) => Some(0),
+        Err(FillError::NotPresent) => None,
     }
-    libc::close(fd);
-    got
+}
+
+// What the system says of an argument that cannot be had.
+fn not_had(error: FillError) -> Error {
+    match error {
+        FillError::NotPresent => Error::from_raw_os_error(EINVAL),
+        FillError::TooLong => Error::from_raw_os_error(ENAMETOOLONG),
+    }
 }
 
 // The same for the file that argument i names.
-pub fn read_named(program: &[u8], i: usize, room: &mut [u8]) -> isize
-    requires { length room.old < 2 ^ 63 }
-    ensures { Moved (length room.old) result }
+pub fn read_named(rt: &HostRuntime, program: &[u8], i: usize, room: &mut [u8]) -> Option<usize>
+    ensures { IfSome result (λ n. n ≤ length room.old) }
 {
-    let mut path = io::buffer();
-    let n = os::arg(i, &mut path);
-    if os::errno() != 0 {
-        os::fail(program);
-        return -1;
+    let mut path = [0u8; 4096];
+    match rt.arg(i, &mut path) {
+        Ok(n) => read_file(rt, program, &path[..n], room),
+        Err(error) => {
+            fail(rt, program, &not_had(error));
+            None
+        }
     }
-    read_file(program, &path[..n], room)
 }
 
-// Writes all of `text` to standard output and closes it: some disks tell only then that they are full. Standard error says if some of
-// it could not be written.
-pub fn print(program: &[u8], text: &[u8]) {
-    if !io::write_all(STDOUT_FILENO, text) || libc::close(STDOUT_FILENO) < 0 {
-        say_failed(program, b"standard output");
+// Writes all of `text` to standard output. Standard error says if some of it could not be written.
+pub fn print(rt: &HostRuntime, program: &[u8], text: &[u8]) {
+    if let Err(error) = Print::write_all(&rt.stdout(), text) {
+        say_failed(rt, program, b"standard output", &error);
     }
 }

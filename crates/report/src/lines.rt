@@ -1,9 +1,30 @@
 // Counts, and the lines that are printed of them.
 ghost use Rattle.std.specs.Prelude.{◌<◌, ◌≤◌};
 
+use std::io::Stdout;
+
 // How many calls gave each number, a refusal or a verdict, at the place of the number; behind these how many blocks were converted, how
-// many calls were tried and how many differences were found.
-pub type Tally = [usize; 64];
+// many calls were tried and how many differences were found. What is told of them is printed on `out`.
+#[derive(Clone, Copy)]
+pub struct Tally {
+    counts: [usize; 64],
+    out: Stdout,
+}
+
+impl Tally {
+    // Nothing counted yet.
+    pub fn new(out: Stdout) -> Tally {
+        Tally {
+            counts: [0; 64],
+            out,
+        }
+    }
+
+    // The same, for counts that are told where these are.
+    pub fn fresh(&self) -> Tally {
+        Tally::new(self.out)
+    }
+}
 
 pub const CONVERTED: usize = 61;
 
@@ -26,18 +47,19 @@ pub fn named(text: &[u8]) -> Name {
     name
 }
 
-fn say(text: &[u8]) {
-    io::write_all(1, text);
+// What cannot be written is left out.
+fn say(out: Stdout, text: &[u8]) {
+    let _ = out.write_all(text);
 }
 
-fn say_number(x: usize) {
-    io::print_decimal(1, x as u64);
+fn say_number(out: Stdout, x: usize) {
+    let _ = out.print(x);
 }
 
 fn raise(tally: &mut Tally, i: usize, by: usize)
     requires { i < 64 }
 {
-    tally[i] = std::num::wrapping_add_usize(tally[i], by);
+    tally.counts[i] = std::num::wrapping_add_usize(tally.counts[i], by);
 }
 
 // One more call, which gave this number.
@@ -51,79 +73,80 @@ pub fn count(tally: &mut Tally, number: usize) {
 // One more difference, of the call that was tried last; whether it gets a line, above that of its kind: the first eight do.
 fn found_one(what: &[u8], tally: &mut Tally) -> bool {
     raise(tally, DIFFERENCES, 1);
-    if tally[DIFFERENCES] > 8 {
+    if tally.counts[DIFFERENCES] > 8 {
         return false;
     }
-    say(b"call ");
-    say_number(tally[TRIED]);
-    say(b": ");
-    say(what);
+    let out = tally.out;
+    say(out, b"call ");
+    say_number(out, tally.counts[TRIED]);
+    say(out, b": ");
+    say(out, what);
     true
 }
 
-fn say_values(found: usize, expected: usize) {
-    say(b" is ");
-    say_number(found);
-    say(b", not ");
-    say_number(expected);
-    say(b"\n");
+fn say_values(out: Stdout, found: usize, expected: usize) {
+    say(out, b" is ");
+    say_number(out, found);
+    say(out, b", not ");
+    say_number(out, expected);
+    say(out, b"\n");
 }
 
 // A number that is not as expected.
 pub fn differs(what: &[u8], found: usize, expected: usize, tally: &mut Tally) {
     if found_one(what, tally) {
-        say_values(found, expected);
+        say_values(tally.out, found, expected);
     }
 }
 
 // An entry or a byte that is not as expected.
 pub fn differs_at(what: &[u8], at: usize, found: usize, expected: usize, tally: &mut Tally) {
     if found_one(what, tally) {
-        say(b" ");
-        say_number(at);
-        say_values(found, expected);
+        say(tally.out, b" ");
+        say_number(tally.out, at);
+        say_values(tally.out, found, expected);
     }
 }
 
 // What the calls counted at a place gave.
-fn say_outcome(i: usize) {
+fn say_outcome(out: Stdout, i: usize) {
     if i == 0 {
-        say(b" accepted");
+        say(out, b" accepted");
         return;
     }
     if i == CONVERTED {
-        say(b" converted");
+        say(out, b" converted");
         return;
     }
     if i < 50 {
-        say(b" refused by ");
+        say(out, b" refused by ");
     } else {
-        say(b" judged ");
+        say(out, b" judged ");
     }
-    say_number(i);
+    say_number(out, i);
 }
 
-fn say_count(i: usize, blocks: usize) {
+fn say_count(out: Stdout, i: usize, blocks: usize) {
     if blocks == 0 {
         return;
     }
-    say(b", ");
-    say_number(blocks);
-    say_outcome(i);
+    say(out, b", ");
+    say_number(out, blocks);
+    say_outcome(out, i);
 }
 
 fn say_counts(tally: &Tally) {
     let mut i: usize = 0;
     while i < TRIED {
-        say_count(i, tally[i]);
+        say_count(tally.out, i, tally.counts[i]);
         i += 1;
     }
 }
 
 fn say_differences(tally: &Tally) {
-    say(b"differences ");
-    say_number(tally[DIFFERENCES]);
-    say(b"\n");
+    say(tally.out, b"differences ");
+    say_number(tally.out, tally.counts[DIFFERENCES]);
+    say(tally.out, b"\n");
 }
 
 // How many bytes the name has without the blanks behind it.
@@ -140,25 +163,25 @@ fn length(name: &Name) -> usize
     0
 }
 
-fn say_name(name: Name) {
+fn say_name(out: Stdout, name: Name) {
     let end = length(&name);
-    say(&name[..end]);
-    say(b": ");
+    say(out, &name[..end]);
+    say(out, b": ");
 }
 
 fn say_line(name: Name, tally: &Tally) {
-    say_name(name);
-    say_number(tally[TRIED]);
-    say(b" tried");
+    say_name(tally.out, name);
+    say_number(tally.out, tally.counts[TRIED]);
+    say(tally.out, b" tried");
     say_counts(tally);
-    say(b", ");
+    say(tally.out, b", ");
     say_differences(tally);
 }
 
 fn add(all: &mut Tally, tally: &Tally) {
     let mut i: usize = 0;
     while i < 64 {
-        raise(all, i, tally[i]);
+        raise(all, i, tally.counts[i]);
         i += 1;
     }
 }
@@ -172,14 +195,14 @@ pub fn line(name: Name, tally: &Tally, all: &mut Tally) {
 // The same for trials in a mode.
 pub fn line_in(heterozygous: bool, name: Name, tally: &Tally, all: &mut Tally) {
     if heterozygous {
-        say(b"all-heterozygous ");
+        say(tally.out, b"all-heterozygous ");
     }
     line(name, tally, all);
 }
 
 // The same for trials of a call.
 pub fn line_of(call: &[u8], name: Name, tally: &Tally, all: &mut Tally) {
-    say(call);
+    say(tally.out, call);
     line(name, tally, all);
 }
 

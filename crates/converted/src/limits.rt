@@ -75,7 +75,7 @@ fn sizes(tally: &mut Tally) {
 }
 
 pub fn run(all: &mut Tally) {
-    let mut tally = [0usize; 64];
+    let mut tally = all.fresh();
     examples(&mut tally);
     refusals(&mut tally);
     sizes(&mut tally);

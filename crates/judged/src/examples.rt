@@ -37,7 +37,7 @@ fn claims(block: &[u8], tally: &mut Tally) {
 
 // P1 in both versions.
 pub fn run(all: &mut Tally) {
-    let mut tally = [0usize; 64];
+    let mut tally = all.fresh();
     forms(&P1_VERSION_1, &mut tally);
     claims(&P1_VERSION_1, &mut tally);
     forms(&P1_VERSION_2, &mut tally);

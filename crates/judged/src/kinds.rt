@@ -143,7 +143,7 @@ fn answers(i: usize, state: &mut u32, all: &mut Tally)
 {
     let kind = ANSWERS[i];
     let trials = 10 * wide(kind[2]);
-    let mut tally = [0usize; 64];
+    let mut tally = all.fresh();
     let mut trial: usize = 0;
     while trial < trials {
         one(kind[0], kind[1], state, &mut tally);

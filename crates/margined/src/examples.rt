@@ -64,7 +64,7 @@ fn examples(version: usize, tally: &mut Tally) {
 }
 
 pub fn run(all: &mut Tally) {
-    let mut tally = [0usize; 64];
+    let mut tally = all.fresh();
     examples(1, &mut tally);
     examples(2, &mut tally);
     line_of(b"margins ", named(b"examples"), &tally, all);

@@ -74,7 +74,7 @@ fn weights(tally: &mut Tally) {
 }
 
 pub fn run(all: &mut Tally) {
-    let mut tally = [0usize; 64];
+    let mut tally = all.fresh();
     in_version(1, &mut tally);
     in_version(2, &mut tally);
     weights(&mut tally);

@@ -49,7 +49,7 @@ fn examples(version: usize, heterozygous: bool, tally: &mut Tally) {
 }
 
 pub fn run(heterozygous: bool, all: &mut Tally) {
-    let mut tally = [0usize; 64];
+    let mut tally = all.fresh();
     examples(1, heterozygous, &mut tally);
     examples(2, heterozygous, &mut tally);
     line_in(heterozygous, named(b"examples"), &tally, all);

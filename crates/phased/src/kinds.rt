@@ -27,7 +27,7 @@ fn blocks(i: usize, heterozygous: bool, state: &mut u32, all: &mut Tally)
     requires { i < 20 }
 {
     let kind = numbered(i);
-    let mut tally = [0usize; 64];
+    let mut tally = all.fresh();
     let mut block: usize = 0;
     while block < kind.blocks {
         one(kind, heterozygous, state, &mut tally);

@@ -171,7 +171,7 @@ fn in_version(version: usize, heterozygous: bool, tally: &mut Tally) {
 }
 
 pub fn run(heterozygous: bool, all: &mut Tally) {
-    let mut tally = [0usize; 64];
+    let mut tally = all.fresh();
     headers(heterozygous, &mut tally);
     lengths(heterozygous, &mut tally);
     empties(heterozygous, &mut tally);

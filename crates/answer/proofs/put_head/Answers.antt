@@ -12,6 +12,7 @@ put_long-requires c = simp length-set (omega arith)
 
 pub put_long-requires-2 : goal.put_long-requires-2
 put_long-requires-2 c =
+    -- the output keeps its length
     let after_1 : length c.put_long.new.out ≡ length c.args.out.now = let k = simp length-set at c.put_long.auto.out in omega arith in
     omega (arith, after_1)
 

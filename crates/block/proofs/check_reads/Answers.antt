@@ -32,6 +32,7 @@ returns-then-at-reads c =
     let shape_of : Shape = c.args.shape in
     let found : search_numbers c.first_fault.result ≡ fault shape_of bytes = let s = shape_of in
     c.first_fault.ensures.result_value ∙ ap (reads_fault s.size s.m s.n 0) (part_is bytes) in
+    -- a search that finds no fault, and where it ends
     let passes : passed ≡ fault shape_of bytes = ap search_numbers (sym c.in-End.is) ∙ found in
     let ends : let b = reads_part bytes in
     c.in-End.at + length (after_reads shape_of.n b) ≡ length b = let e = rw c.in-End.is at c.first_fault.ensures.search_end in

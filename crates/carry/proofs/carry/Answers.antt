@@ -7,6 +7,7 @@ use Rattle.carry.proofs.carry.Goals as goal
 
 pub first_row-requires : goal.first_row-requires
 first_row-requires c =
+    -- the part has a row
     let whole : c.args.classes ≤ length c.args.part.now = first_fits c.args.classes (length c.args.part.now / c.args.classes) (length c.args.part.now) c.requires.part_nonzero.0 c.requires.part_nonzero.1 in
     (whole, c.requires.classes_nonzero.1)
 
@@ -21,6 +22,7 @@ returns-then-part-classes c =
 
 pub first_rows-requires : goal.first_rows-requires
 first_rows-requires c =
+    -- where it has not one row only, it has two
     let two : 2 * c.args.classes ≤ length c.args.part.now = second_fits c.args.classes (length c.args.part.now / c.args.classes) (length c.args.part.now) c.requires.part_nonzero.0 c.requires.part_nonzero.1 c.if-part-classes.false in
     (two, c.requires.classes_nonzero.1)
 
@@ -42,6 +44,7 @@ loop-base-init c =
 pub next_row-requires : goal.next_row-requires
 next_row-requires c =
     let whole : c.args.classes ≤ length c.args.part.now = first_fits c.args.classes (length c.args.part.now / c.args.classes) (length c.args.part.now) c.requires.part_nonzero.0 c.requires.part_nonzero.1 in
+    -- each row that starts in time lies in the part
     let row : c.loop-base.base + c.args.classes ≤ length c.args.part.now = let h = whole in omega arith in
     (row, omega (arith, c.requires.classes_nonzero.1, c.loop-base.invariant.1, c.first_rows.auto))
 

@@ -13,6 +13,7 @@ level-level-requires c = start_small c.args.heterozygous c.args.w.now c.args.p c
 
 pub raised-t-requires : goal.raised-t-requires
 raised-t-requires c =
+    -- the level that is found is the column's
     let level : let a = c.args in c.level-level.result ≡ level_at a.heterozygous a.w.now a.p = level_is c.args.heterozygous c.args.w.now c.args.p c.requires.0 c.requires.1 _ c.sums-s.ensures c.if-heterozygous.true _ c.level-level.ensures in
     raised-small c.args.heterozygous c.args.w.now c.args.p c.requires.0 c.requires.1 _ c.sums-s.ensures _ level
 

@@ -19,6 +19,7 @@ returns-then-block-ne1 c = refused_converting _ _ 2 0 (sym (version_other _ c.if
 pub write-requires : goal.write-requires
 write-requires c =
     let bytes : List ℕ = c.args.block.now in
+    -- a block that passes
     let passes : Passes bytes c.in-Passed.shape = subst (CheckedSizes bytes) c.in-Passed.is c.checked.ensures.checked_sizes in
     subst (Lawful c.in-Passed.shape) (sym (part_is bytes)) passes.lawful
 

@@ -18,6 +18,7 @@ loop-r-init c = (search rules, refl, search rules, refl, search rules, refl, sea
 
 pub word_at-len-requires : goal.word_at-len-requires
 word_at-len-requires c =
+    -- read r, as it stands in the bytes
     let this_is : let a = c.args in
     This a.shape a.reads.now c.loop-r.at c.loop-r.r = this _ _ c.requires c.loop-r.at c.loop-r.r c.loop-r.invariant.1 c.loop-r-test.true in
     omega (arith, this_is.here)
@@ -47,6 +48,7 @@ pub overflow_mul-bytes : goal.overflow_mul-bytes
 overflow_mul-bytes c =
     let this_is : let a = c.args in
     This a.shape a.reads.now c.loop-r.at c.loop-r.r = this _ _ c.requires c.loop-r.at c.loop-r.r c.loop-r.invariant.1 c.loop-r-test.true in
+    -- and its number of cells
     let cells_are : let a = c.args in
     c.cells_in-c.result ≡ length (read (matrix_in a.shape a.reads.now) c.loop-r.r).cells = let s = c.args.shape in
     c.cells_in-c.ensures ∙ ap (λ (l : ℕ). (l - 2) / s.size) c.word_at-len.ensures.0 ∙ this_is.count in

@@ -20,6 +20,7 @@ loop-i-init c = let a = c.args in (search rules, refl, cells_none a.size a.cells
 
 pub overflow_mul-from : goal.overflow_mul-from
 overflow_mul-from c =
+    -- cell i lies inside the cells that are read
     let below : let a = c.args in c.loop-i.i < length a.cells.now / a.size = subst (λ (n : ℕ). c.loop-i.i < n) c.cells_in-c.ensures c.loop-i-test.true in
     let inside : let a = c.args in a.size * c.loop-i.i + a.size ≤ length a.cells.now = cell-inside _ _ _ below in
     omega (arith, inside)
@@ -33,6 +34,7 @@ weight_at-weight-requires c =
 pub overflow_mul-i : goal.overflow_mul-i
 overflow_mul-i c =
     let below : let a = c.args in c.loop-i.i < length a.cells.now / a.size = subst (λ (n : ℕ). c.loop-i.i < n) c.cells_in-c.ensures c.loop-i-test.true in
+    -- and where it is written there is room
     let room : let a = c.args in a.at + 3 * (c.loop-i.i + 1) ≤ length a.out.now = omega (arith, below, c.requires.1) in
     omega (arith, room)
 

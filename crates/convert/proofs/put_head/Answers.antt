@@ -11,6 +11,7 @@ put_long-requires c = simp length-set (omega arith)
 
 pub put_word-requires : goal.put_word-requires
 put_word-requires c =
+    -- the output keeps its length
     let long_kept : length c.put_long.new.out ≡ length c.args.out.now = let k = simp length-set at c.put_long.auto.out in omega arith in
     omega (arith, long_kept)
 

@@ -15,6 +15,7 @@ cells_in-c-requires c = c.requires.cell_size.0
 
 pub overflow_mul-c : goal.overflow_mul-c
 overflow_mul-c c =
+    -- the number of cells, by the length field and by the bytes that are cut off
     let count_is : let a = c.args in c.cells_in-c.result ≡ (word a.reads.now a.at - 2) / a.size = let a = c.args in
     c.cells_in-c.ensures ∙ ap (λ (l : ℕ). (l - 2) / a.size) c.word_at-len.ensures.0 in
     omega (arith, count_is)

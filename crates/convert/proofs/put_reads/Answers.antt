@@ -21,6 +21,7 @@ loop-r-init c = let a = c.args in (search rules, refl, search rules, refl, refl,
 
 pub word_at-len-requires : goal.word_at-len-requires
 word_at-len-requires c =
+    -- read r, as it stands in the bytes
     let this_is : let a = c.args in
     This a.shape a.reads.now c.loop-r.at c.loop-r.r = this _ _ c.requires.0 c.loop-r.at c.loop-r.r c.loop-r.invariant.1 c.loop-r-test.true in
     omega (arith, this_is.here)
@@ -38,9 +39,11 @@ pub put_read-requires : goal.put_read-requires
 put_read-requires c =
     let this_is : let a = c.args in
     This a.shape a.reads.now c.loop-r.at c.loop-r.r = this _ _ c.requires.0 c.loop-r.at c.loop-r.r c.loop-r.invariant.1 c.loop-r-test.true in
+    -- its number of cells
     let cells_are : let a = c.args in
     c.cells_in-cells.result ≡ length (read (matrix_in a.shape a.reads.now) c.loop-r.r).cells = let s = c.args.shape in
     c.cells_in-cells.ensures ∙ ap (λ (l : ℕ). (l - 2) / s.size) c.word_at-len.ensures.0 ∙ this_is.count in
+    -- and there is room for it
     let fits : let a = c.args in
     c.loop-r.to + (4 + 3 * length (read (matrix_in a.shape a.reads.now) c.loop-r.r).cells) ≤ length a.out.now = let M : Matrix = matrix_in c.args.shape c.args.reads.now in
     let k = cells_are in

@@ -21,6 +21,7 @@ pub returns-then-out-k : goal.returns-then-out-k
 returns-then-out-k c =
     let matrix : Matrix = let a = c.args in matrix_in a.shape a.reads.now in
     let all : c.args.shape.n ≡ count matrix = let a = c.args in sym (count_is a.shape a.reads.now) in
+    -- the bytes needed
     let size : 9 + c.kept_in-k.result.bytes ≡ length (block_bytes (without_empty matrix)) = ap (λ (k : ℕ). 9 + k) c.kept_in-k.ensures.1 ∙ sym (size_is matrix _ all) in
     writing_none _ _ _ size c.if-out-k.true
 

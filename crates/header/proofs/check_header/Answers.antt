@@ -21,6 +21,7 @@ returns-then-long_at-block c = record { result_value = is_size _ c.if-block-lt9.
 
 pub returns-then-m-eq0 : goal.returns-then-m-eq0
 returns-then-m-eq0 c =
+    -- behind the checks 1 to 3
     let bytes : List ℕ = c.args.block.now in
     let nine : 9 ≤ length bytes = c.if-block-lt9.false in
     let size-of : c.cell_size-size.result ≡ size_of (version_field bytes) = c.cell_size-size.ensures in

@@ -26,6 +26,7 @@ shape_of-scratch-then-out-need c = c.solve-o.auto.scratch
 
 pub returns-then-out-need : goal.returns-then-out-need
 returns-then-out-need c margins l =
+    -- what it said of an output of one byte, once it is known which outcome it is
     let Told : Outcome → Type 0 = λ o. let a = c.args in
     let l = c.solve-o.new in
     result_of o l.work l.out ≡ call_on general (matrix_in a.shape a.reads.now) a.work.now (0 ∷ []) in

@@ -38,10 +38,12 @@ solve-o-requires c = record { lawful = c.requires.lawful; rooms = c.requires.roo
 
 pub margined-requires : goal.margined-requires
 margined-requires c =
+    -- what it said, once it is known which outcome it is
     let Told : Outcome → Type 0 = λ o. let a = c.args in
     let l = c.solve-o.new in
     result_of o l.work l.out ≡ call_on general (matrix_in a.shape a.reads.now) a.work.now a.out.now in
     let told : (o : Outcome) → c.solve-o.result ≡ o → Told o = λ o e. subst Told e c.solve-o.ensures in
+    -- the part of the scratch that the tally takes
     let tally_room : let m = c.args.shape.m in
     let scratch = c.solve-o.new.scratch in
     length (take (4 * m - 0) (drop 0 scratch)) ≡ 4 * m = let m = c.args.shape.m in

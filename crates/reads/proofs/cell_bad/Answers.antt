@@ -13,6 +13,7 @@ returns-then-letter-gt2 c = is_above _ _ c.args.i c.if-letter-gt2.true
 
 pub returns-then-weight_at-ne0 : goal.returns-then-weight_at-ne0
 returns-then-weight_at-ne0 c =
+    -- the letter that is neither below nor above 2
     let hole : let a = c.args in get_or a.cells.now (a.size * a.i) 0 ≡ 2 = omega arith in
     is_weighted _ _ c.args.i hole _ c.weight_at.ensures.0 c.if-weight_at-ne0.true
 

@@ -18,6 +18,7 @@ reads-init c = (search rules, search rules, left_all _ _)
 
 pub slice_bounds-cells-count : goal.slice_bounds-cells-count
 slice_bounds-cells-count c =
+    -- a head with cells: it passes, and where they are
     let shape_of : Shape = c.args.shape in
     let bytes : List ℕ = c.args.reads.now in
     let start : ℕ = c.reads.at in

@@ -16,6 +16,7 @@ loop-r-init c = (search rules, refl, search rules, refl, upto_none _ _ _)
 
 pub word_at-len-requires : goal.word_at-len-requires
 word_at-len-requires c =
+    -- read r, as it stands in the bytes
     let here_is : let a = c.args in
     Here a.shape a.reads.now c.loop-r.at c.loop-r.r = here _ _ c.requires.0 c.loop-r.at c.loop-r.r c.loop-r.invariant.1 c.loop-r-test.true in
     omega (arith, here_is)
@@ -64,6 +65,7 @@ offset_bounds-places-k c = omega arith
 
 pub bounds-places-k : goal.bounds-places-k
 bounds-places-k c =
+    -- and its three places
     let room : let l = c.loop-r in 3 * l.r + 2 < length l.places = omega arith in
     omega (arith, room)
 
@@ -85,6 +87,7 @@ pub overflow_add-places-in-loop-r-2 : goal.overflow_add-places-in-loop-r-2
 overflow_add-places-in-loop-r-2 c =
     let here_is : let a = c.args in
     Here a.shape a.reads.now c.loop-r.at c.loop-r.r = here _ _ c.requires.0 c.loop-r.at c.loop-r.r c.loop-r.invariant.1 c.loop-r-test.true in
+    -- the column after its last, as it is computed
     let end_is : let a = c.args in
     c.word_at-first.result + (c.word_at-len.result - 2) / a.shape.size ≡ end (read (matrix_in a.shape a.reads.now) c.loop-r.r) = let s = c.args.shape in
     ap₂ (λ (f l : ℕ). f + (l - 2) / s.size) c.word_at-first.ensures.0 c.word_at-len.ensures.0

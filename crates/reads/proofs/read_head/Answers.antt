@@ -18,7 +18,9 @@ returns-then-reads-at-lt2 c =
 
 pub returns-then-len-lt2 : goal.returns-then-len-lt2
 returns-then-len-lt2 c =
+    -- the bytes from `at` on
     let from : List ℕ = drop c.args.at c.args.reads.now in
+    -- the fields of the read, as they were read
     let length_is : length_field from ≡ c.word_at-len.result = let a = c.args in length_field_lem a.reads.now a.at ∙ sym c.word_at-len.ensures.0 in
     record { result_value = too_small _ _ _ (omega (arith, length_is)); head_place = tt }
 
@@ -53,6 +55,7 @@ returns-then-size-eq3 c =
     let from_length : let a = c.args in length from ≡ length a.reads.now - a.at = let a = c.args in length-drop a.at a.reads.now in
     let length_is : length_field from ≡ c.word_at-len.result = let a = c.args in length_field_lem a.reads.now a.at ∙ sym c.word_at-len.ensures.0 in
     let count_is : cell_count size rest ≡ c.cells_in-count.result = ap (λ (l : ℕ). (l - 2) / size) length_is ∙ sym c.cells_in-count.ensures in
+    -- what the check 5 leaves
     let some : 2 ≤ length_field rest = omega (arith, length_is) in
     let whole : (length_field rest - 2) % size ≡ 0 = left_by size (length_field rest - 2)
     (ap (λ (k : ℕ). size * k) count_is ∙ c.if-size-count.false ∙ ap (λ (l : ℕ). l - 2) (sym length_is)) in
@@ -94,8 +97,9 @@ returns-then-first-count c =
     let whole : (length_field rest - 2) % size ≡ 0 = left_by size (length_field rest - 2)
     (ap (λ (k : ℕ). size * k) count_is ∙ c.if-size-count.false ∙ ap (λ (l : ℕ). l - 2) (sym length_is)) in
     let inside : 2 + length_field rest ≤ length rest = omega (arith, length_is, from_length) in
+    -- behind the test of c = 0: such a read has cells of two bytes and stands at the first column
     let beyond : NotRetired size rest × (cell_count size rest ≡ 0 → first_field rest ≡ 0) = elim c.if-count-eq0.branch [
-      then-count-eq0+else-size-eq3+else-first-ne0 w ↦ (λ z e. w.if-size-eq3.false z, λ e. first_is ∙ w.if-first-ne0.false)
+      | then-count-eq0+else-size-eq3+else-first-ne0 w ↦ (λ z e. w.if-size-eq3.false z, λ e. first_is ∙ w.if-first-ne0.false)
       | else-count-eq0 w ↦ (λ z e. w.if-count-eq0.false (sym count_is ∙ e), λ e. absurd (w.if-count-eq0.false (sym count_is ∙ e)))
     ] in
     record { result_value = too_far _ _ _ some whole inside beyond.0 (omega (arith, count_is, first_is)); head_place = tt }
@@ -115,7 +119,7 @@ returns c =
     (ap (λ (k : ℕ). size * k) count_is ∙ c.if-size-count.false ∙ ap (λ (l : ℕ). l - 2) (sym length_is)) in
     let inside : 2 + length_field rest ≤ length rest = omega (arith, length_is, from_length) in
     let beyond : NotRetired size rest × (cell_count size rest ≡ 0 → first_field rest ≡ 0) = elim c.if-count-eq0.branch [
-      then-count-eq0+else-size-eq3+else-first-ne0 w ↦ (λ z e. w.if-size-eq3.false z, λ e. first_is ∙ w.if-first-ne0.false)
+      | then-count-eq0+else-size-eq3+else-first-ne0 w ↦ (λ z e. w.if-size-eq3.false z, λ e. first_is ∙ w.if-first-ne0.false)
       | else-count-eq0 w ↦ (λ z e. w.if-count-eq0.false (sym count_is ∙ e), λ e. absurd (w.if-count-eq0.false (sym count_is ∙ e)))
     ] in
     let good = good_length _ _ some whole inside in

@@ -13,6 +13,7 @@ use Rattle.ready.proofs.piled.Goals as goal
 
 pub heights-requires : goal.heights-requires
 heights-requires c =
+    -- where the reads lie is noted
     let piling : let a = c.args in Piling a.shape a.reads.now c.places.new.places a.lists.now = record { lawful = c.requires.lawful; noted = c.places.ensures; room = c.requires.n_in_bounds.1 } in
     let p = piling in
     record { n_bound = (p.lawful.few-reads, p.noted.room); by_index = λ r l. omega (arith, ends-inside _ _ _ _ p r l, p.room); lists_value = c.requires.lists_value }
@@ -20,13 +21,16 @@ heights-requires c =
 pub overflow_cast-result : goal.overflow_cast-result
 overflow_cast-result c =
     let piling : let a = c.args in Piling a.shape a.reads.now c.places.new.places a.lists.now = record { lawful = c.requires.lawful; noted = c.places.ensures; room = c.requires.n_in_bounds.1 } in
+    -- and with the heights among the lists
     let heighted : let a = c.args in Piling a.shape a.reads.now c.places.new.places c.heights.new.lists = piling_lists _ _ _ _ piling c.heights.new.lists c.heights.auto.lists in
+    -- the column that is found, in the words of the pile
     let found : record { number = 9; second = c.in-Crowded.j } ≡ crowded (count_at c.heights.new.lists) 0 c.args.shape.m = sym (ap pile_numbers c.in-Crowded.is) ∙ c.tallest-h.ensures.result_value in
     let l = crowded_lt _ 0 _ c.in-Crowded.j found in
     omega (arith, heighted.lawful.few-columns)
 
 pub entries-requires : goal.entries-requires
 entries-requires c =
+    -- or A
     let most : PileMost (count_at c.heights.new.lists) c.args.shape.m (Most c.in-Most.most) = subst (PileMost (count_at c.heights.new.lists) c.args.shape.m) c.in-Most.is c.tallest-h.ensures.pile_most in
     most.1
 

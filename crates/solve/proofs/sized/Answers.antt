@@ -12,6 +12,7 @@ use Rattle.solve.proofs.sized.Goals as goal
 
 pub overflow_mul-need : goal.overflow_mul-need
 overflow_mul-need c =
+    -- the table's size
     let fits : c.args.shape.m * c.args.t ≤ 2097152 = table_fits _ _ _ _ c.requires.piling c.args.t c.requires.thin_columns in
     omega (arith, fits)
 

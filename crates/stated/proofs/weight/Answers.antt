@@ -13,10 +13,12 @@ column_at-c-requires c = record { stated_tally = c.requires.stated_tally; sized 
 
 pub overflow_add-total : goal.overflow_add-total
 overflow_add-total c =
+    -- one more column
     let more : let a = c.args in let l = c.loop-j in
     WeighedTo (matrix_in a.shape a.reads.now) a.answer.now a.shape.m (l.total + (c.against.result + c.against-in-loop-j.result)) (l.j + 1) = let l = c.loop-j in
     weighed_more _ c.args.answer.now c.args.shape.m l.total l.j l.invariant c.loop-j-test.true _ c.column_at-c.ensures
     (weight-small _ c.args.answer.now _ c.requires.stated_tally l.j c.loop-j-test.true) _ _ c.against.ensures c.against-in-loop-j.ensures in
+    -- its total is small
     let fits : c.loop-j.total + (c.against.result + c.against-in-loop-j.result) ≤ 805294080 = omega (arith, c.requires.sized.few-columns, more.small, more.inside) in
     omega (arith, fits)
 

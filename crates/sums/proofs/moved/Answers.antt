@@ -8,6 +8,7 @@ use Rattle.sums.proofs.moved.Goals as goal
 
 pub overflow_sub-result : goal.overflow_sub-result
 overflow_sub-result c =
+    -- what moving from side 0, and from side 1, asks
     let from_zero : Movable (sums_of c.args.s) (pair_at c.args.w) false = subst (Movable (sums_of c.args.s) (pair_at c.args.w)) (side_zero c.args.from c.if-from-eq0.true) c.requires.1 in
     (from_zero false).0
 

@@ -13,6 +13,7 @@ loop-i-init c = (omega arith, leaf_none _, leaf_none _, omega arith, omega arith
 
 pub overflow_add-w0 : goal.overflow_add-w0
 overflow_add-w0 c =
+    -- read i's pair is light
     let light : (l : Letter) → weight_of c.args.w.now c.loop-i.i l ≤ 65535 = c.requires.1 c.loop-i.i c.loop-i-test.true in
     omega (arith, light false)
 

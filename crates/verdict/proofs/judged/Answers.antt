@@ -15,11 +15,13 @@ other_counts-requires c = seventeen c.args.answer.now (sym c.malformed.ensures �
 
 pub returns-then-other_counts : goal.returns-then-other_counts
 returns-then-other_counts c =
+    -- other n or m
     let counts : let a = c.args in c.other_counts.result ≡ other_counts (matrix_in a.shape a.reads.now) a.answer.now = c.other_counts.ensures ∙ counts_told _ c.args.answer.now c.args.shape.n (count_is c.args.shape c.args.reads.now) in
     gives_51 _ c.args.answer.now _ c.malformed.ensures c.if-malformed.false _ counts c.if-other_counts.true
 
 pub unknown_mark-requires : goal.unknown_mark-requires
 unknown_mark-requires c =
+    -- an answer of our size
     let sized : let a = c.args in Sized a.answer.now a.shape.m a.shape.n = let h = c.requires.filled.ready.lawful in
     same_counts c.args.answer.now c.args.shape.m c.args.shape.n h.few-columns h.few-reads (sym c.malformed.ensures ∙ c.if-malformed.false)
     (sym c.other_counts.ensures ∙ c.if-other_counts.false) in

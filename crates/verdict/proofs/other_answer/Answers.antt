@@ -23,6 +23,7 @@ other_sides-requires c =
 
 pub returns-then-other_sides : goal.returns-then-other_sides
 returns-then-other_sides c =
+    -- what the way back gives are our sides
     let ours : let a = c.args in let M = matrix_in a.shape a.reads.now in c.write_sides.new.sides ≡ sides_of M (best charge M) = our_sides _ _ _ _ c.args.t c.args.work.now c.requires.filled _ c.write_sides.ensures in
     sym c.if-other_sides.true
     ∙ other_sides_told (matrix_in c.args.shape c.args.reads.now) c.args.answer.now c.args.shape.m c.args.shape.n c.requires.sized.0 refl (sym (count_is c.args.shape c.args.reads.now))

@@ -24,6 +24,7 @@ tally-requires c = record { lawful = (c.requires.filled.ready.lawful, c.requires
 
 pub false_dash-requires : goal.false_dash-requires
 false_dash-requires c =
+    -- the tally is that of the answer's sides
     let tallied : let a = c.args in StatedTally (matrix_in a.shape a.reads.now) a.answer.now c.tally.new.tally = tally_stated _ c.args.answer.now _ c.args.shape.m c.args.shape.n c.requires.sized.0 c.tally.ensures in
     record { stated_tally = tallied; sized = c.requires.sized.0 }
 
@@ -46,6 +47,7 @@ long_at-requires c = omega (arith, c.requires.sized.0.whole)
 
 pub returns-then-place-long_at : goal.returns-then-place-long_at
 returns-then-place-long_at c =
+    -- the least entry is the least cost
     let least : let a = c.args in c.least_last-least.result ≡ least_cost charge (matrix_in a.shape a.reads.now) = least-cost _ _ _ _ c.args.t c.args.work.now c.requires.filled _ c.least_last-least.ensures in
     gives_55 _ c.args.answer.now c.requires.sized.1 _ c.false_dash.ensures c.if-false_dash.false _ c.wrong_cost.ensures c.if-wrong_cost.false
     _ _ c.long_at.ensures.0 least (omega (arith, c.if-place-long_at.true, c.place.ensures.0))
@@ -58,6 +60,7 @@ other_answer-requires c =
 pub returns-then-other_answer : goal.returns-then-other_answer
 returns-then-other_answer c =
     let least : let a = c.args in c.least_last-least.result ≡ least_cost charge (matrix_in a.shape a.reads.now) = least-cost _ _ _ _ c.args.t c.args.work.now c.requires.filled _ c.least_last-least.ensures in
+    -- none of 50 to 55 applies
     let passed : let a = c.args in Least (matrix_in a.shape a.reads.now) a.answer.now = is_least _ c.args.answer.now c.requires.sized.1 _ c.false_dash.ensures c.if-false_dash.false _ c.wrong_cost.ensures c.if-wrong_cost.false
     _ _ c.long_at.ensures.0 least (omega (arith, c.if-place-long_at.false, c.place.ensures.0)) in
     gives_56 _ c.args.answer.now passed _ c.other_answer.ensures c.if-other_answer.true

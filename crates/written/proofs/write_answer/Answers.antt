@@ -17,9 +17,12 @@ use Rattle.written.proofs.write_answer.Goals as goal
 
 pub write_letters-flips-requires : goal.write_letters-flips-requires
 write_letters-flips-requires c =
+    -- the sides lie in the output
     let room : 17 + c.args.shape.n ≤ length c.args.out.now = omega (arith, c.requires.m_in_bounds) in
+    -- the part of the scratch that the tally takes
     let tally_room : length (take (4 * c.args.shape.m - 0) (drop 0 c.args.scratch.now)) ≡ 4 * c.args.shape.m = length-take-le (4 * c.args.shape.m - 0) (drop 0 c.args.scratch.now) (omega (arith, c.requires.t_in_bounds.1, length-drop 0 c.args.scratch.now)) ∙ omega arith in
     let sides_kept : length c.write_sides.new.sides ≡ length (take (17 + c.args.shape.n - 17) (drop 17 c.args.out.now)) = c.write_sides.auto.sides in
+    -- the output keeps its length
     let after_sides : length (take 17 c.args.out.now ++ (c.write_sides.new.sides ++ drop (17 + c.args.shape.n - 17) (drop 17 c.args.out.now))) ≡ length c.args.out.now = output_length c.args.shape.n c.write_sides.new.sides c.args.out.now sides_kept room in
     let r = c.requires.ready in
     record { lawful = (r.lawful, r.noted); thin = ready-thin _ _ _ _ r; m_in_bounds = (le_trans c.requires.m_in_bounds (le_of_eq (sym after_sides)), le_of_eq (sym tally_room)) }
@@ -41,6 +44,7 @@ pub returns : goal.returns
 returns c =
     let room : 17 + c.args.shape.n ≤ length c.args.out.now = omega (arith, c.requires.m_in_bounds) in
     let sides_kept : length c.write_sides.new.sides ≡ length (take (17 + c.args.shape.n - 17) (drop 17 c.args.out.now)) = c.write_sides.auto.sides in
+    -- the least entry is the cost
     let cost : c.least_last-cost.result ≡ least_cost (charge_in (mode_of c.args.heterozygous)) (matrix_in c.args.shape c.args.reads.now) = c.least_last-cost.ensures ∙ cost_is _ (mode_fair c.args.heterozygous) _ (lawful_placed _ _ c.requires.ready.lawful) c.requires.ready.lawful.some-column c.args.work.now c.requires.t_value.1 in
     let l = c.write_letters-flips in
     let p = c.put_head in

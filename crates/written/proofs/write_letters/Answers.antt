@@ -11,6 +11,7 @@ use Rattle.written.proofs.write_letters.Goals as goal
 
 pub overflow_add-z : goal.overflow_add-z
 overflow_add-z c =
+    -- the plain numbers
     let sizes : (c.args.shape.m ≤ 1024) × (c.args.shape.n ≤ 1024) = (c.requires.lawful.0.few-columns, c.requires.lawful.0.few-reads) in
     omega (arith, sizes)
 
@@ -39,6 +40,7 @@ loop-j-init c = written_none _ _ c.args.shape.n c.args.shape.m c.args.out.now c.
 
 pub letters_at-x-requires : goal.letters_at-x-requires
 letters_at-x-requires c =
+    -- the tally keeps its length
     let tally_kept : length c.tally.new.tally ≡ length c.args.tally.now = c.tally.auto.tally in
     omega (arith, tally_kept, c.requires.m_in_bounds.1, c.loop-j-test.true)
 
@@ -54,6 +56,7 @@ overflow_add-out-in-loop-j c =
 
 pub bounds-out-n : goal.bounds-out-n
 bounds-out-n c =
+    -- and so does the output
     let written : length c.loop-j.out ≡ length c.args.out.now = c.loop-j.invariant.same_length in
     omega (arith, written, c.loop-j-test.true, c.requires.m_in_bounds.0)
 
@@ -80,6 +83,7 @@ bounds-out-n-in-loop-j c =
 pub overflow_add-flips : goal.overflow_add-flips
 overflow_add-flips c =
     let sizes : (c.args.shape.m ≤ 1024) × (c.args.shape.n ≤ 1024) = (c.requires.lawful.0.few-columns, c.requires.lawful.0.few-reads) in
+    -- the letters and the flips of the column
     let told : let a = c.args in Lettered (mode_of a.heterozygous) (matrix_in a.shape a.reads.now) (division_in a.shape.n a.out.now) c.loop-j.j c.letters_at-x.result = sides_lettered c.args.shape.n c.args.out.now (mode_of c.args.heterozygous) (matrix_in c.args.shape c.args.reads.now) _ c.tally.ensures c.loop-j.j c.loop-j-test.true _ c.letters_at-x.ensures in
     omega (arith, sizes, told.flips-few, c.loop-j.invariant.flips-few, c.loop-j-test.true)
 

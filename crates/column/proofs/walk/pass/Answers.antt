@@ -13,6 +13,7 @@ use Rattle.column.proofs.walk.pass.Goals as goal
 
 pub entry-requires : goal.entry-requires
 entry-requires c =
+    -- index 0
     let first : At c.args.w.now c.args.turn.now c.args.c.p (level_at c.args.c.heterozygous c.args.w.now c.args.c.p) c.args.taken.now c.args.start 0 0 = at_start c.requires.p_bound.0 c.requires.p_bound.1 c.requires.low.0 c.requires.low.1 c.requires.start_value in
     at-fits first
 
@@ -24,6 +25,7 @@ bounds-part-0 c =
 pub step-requires : goal.step-requires
 step-requires c =
     let first : At c.args.w.now c.args.turn.now c.args.c.p (level_at c.args.c.heterozygous c.args.w.now c.args.c.p) c.args.taken.now c.args.start 0 0 = at_start c.requires.p_bound.0 c.requires.p_bound.1 c.requires.low.0 c.requires.low.1 c.requires.start_value in
+    -- its entry is written
     let begun : Walked c.args.w.now c.args.turn.now c.args.c.p (level_at c.args.c.heterozygous c.args.w.now c.args.c.p) c.args.taken.now 1
     (set c.args.part.now 0 c.entry.result) c.args.start 0 0 = walked_start c.args.w.now c.args.turn.now (level_at c.args.c.heterozygous c.args.w.now c.args.c.p) c.args.taken.now c.args.part.now c.args.c.p first c.requires.p_in_bounds _ c.entry.ensures in
     first-turns c.if-p-eq2.true begun
@@ -62,6 +64,7 @@ overflow_shr-from c = omega (arith, c.loop-d-test.true, c.loop-d.invariant.5.at.
 
 pub step-t-requires : goal.step-t-requires
 step-t-requires c =
+    -- step n is one of the walk's, and so are the three after it
     let below : (c.loop-d.n + 3 < used c.args.c.p) × (used c.args.c.p ≤ 2048) = let l = c.loop-d in
     let few = l.invariant.5.at.few in
     let inside = step_inside _ l.n l.d few l.invariant.2 l.invariant.3 c.loop-d-test.true in

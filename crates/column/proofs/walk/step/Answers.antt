@@ -10,6 +10,7 @@ use Rattle.column.proofs.walk.step.Goals as goal
 
 pub overflow_add-d : goal.overflow_add-d
 overflow_add-d c =
+    -- digit d has a read
     let small : c.args.d + 1 < 12 = omega (arith, digit_below c.requires, c.requires.walked.at.few) in
     omega (arith, small)
 
@@ -49,6 +50,7 @@ bounds-turn-d c =
 pub entry-requires : goal.entry-requires
 entry-requires c =
     let small : c.args.d + 1 < 12 = omega (arith, digit_below c.requires, c.requires.walked.at.few) in
+    -- digit d turned, as the code has it, and the walk there
     let turned : bit_xor c.args.x.k (1 * 2 ^ c.args.d % 2 ^ 64) ≡ bit_xor c.args.x.k (2 ^ c.args.d) = ap (bit_xor c.args.x.k) (one_shl c.args.d (omega (arith, small))) in
     let next : At c.args.w.now c.args.turn.now c.args.c.p (level_at c.args.c.heterozygous c.args.w.now c.args.c.p) c.args.taken.now c.moved-t.result
     (bit_xor c.args.x.k (1 * 2 ^ c.args.d % 2 ^ 64)) (bit_xor c.args.x.q (get_or c.args.turn.now (c.args.d + 1) 0)) = step_at c.requires _ turned _ c.moved-t.ensures in

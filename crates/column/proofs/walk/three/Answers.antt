@@ -10,6 +10,7 @@ use Rattle.column.proofs.walk.three.Goals as goal
 
 pub overflow_add-n1 : goal.overflow_add-n1
 overflow_add-n1 c =
+    -- the steps' numbers are small
     let small : c.args.x.n < 2048 = omega (arith, c.requires.2, used-small c.args.c.p c.requires.3.at.few) in
     omega (arith, small)
 

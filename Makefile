@@ -24,9 +24,8 @@ SEED ?= 1
 COUNT ?= 100000
 
 version := 0.1.0
-# what the Rust programs link: the shipped archive, or the same library for another processor
-linked := target/$(if $(filter x86_64,$(shell uname -m)),staticlib,native)/libvelejume.a
-sources := $(shell find crates -path '*/must-fail' -prune -o -type f -print) crates.txt
+archive := target/staticlib/libvelejume.a
+sources := $(shell find crates \( -path 'crates/*/must-fail' -o -path 'crates/*/out' \) -prune -o -type f -print) crates.txt
 tool := rust/target/release/velejume
 root := $(DESTDIR)$(PREFIX)
 module := $(DESTDIR)$(PYTHONDIR)/velejume
@@ -50,14 +49,14 @@ tool: $(tool)
 corpus: $(tool)
 	@$(tool) judge '$(FOLDER)'
 
-lib: target/staticlib/libvelejume.a
+lib: $(archive)
 
 shared: target/shared/libvelejume.so
 
-install: target/bin/phase target/bin/judge target/staticlib/libvelejume.a target/shared/libvelejume.so $(tool)
+install: target/bin/phase target/bin/judge $(archive) target/shared/libvelejume.so $(tool)
 	@mkdir -p '$(root)/bin' '$(root)/lib/pkgconfig' '$(root)/include' '$(root)/share/man/man1' '$(module)'
 	@install -m 755 target/bin/phase target/bin/judge $(tool) '$(root)/bin'
-	@install -m 644 target/staticlib/libvelejume.a '$(root)/lib'
+	@install -m 644 $(archive) '$(root)/lib'
 	@install -m 644 target/shared/libvelejume.so '$(root)/lib/libvelejume.so.$(version)'
 	@ln -sf libvelejume.so.$(version) '$(root)/lib/libvelejume.so.0'
 	@ln -sf libvelejume.so.0 '$(root)/lib/libvelejume.so'
@@ -70,34 +69,31 @@ install: target/bin/phase target/bin/judge target/staticlib/libvelejume.a target
 test:
 	@bash .ci/run
 
-bench: $(linked)
+bench: $(archive)
 	@cd rust && cargo run --quiet --profile timed --offline --bin bench
 
-soak: $(linked)
+soak: $(archive)
 	@cd rust && cargo run --quiet --release --offline --bin soak -- $(SEED) $(COUNT)
 
 clean:
-	@rm -rf target rust/target
+	@rm -rf target rust/target crates/*/out
 	@find python -name __pycache__ -prune -exec rm -rf {} +
 
+# rt runs each program that it builds; with no argument and nothing to read both end at once
 target/bin/phase target/bin/judge: target/bin/%: $(sources)
 	@echo 'proving and building $* (some minutes the first time)' >&2
-	@scripts/quietly rt check $*
-	@touch $@
+	@cd crates/$* && ../../scripts/quietly rt run < /dev/null
+	@install -D -m 755 crates/$*/out/$* $@
 
-target/staticlib/libvelejume.a: $(sources)
+$(archive): $(sources)
 	@echo 'proving and building the library (some minutes the first time)' >&2
-	@scripts/quietly rt staticlib velejume
-	@touch target/staticlib/libvelejume.a
+	@cd crates/velejume_c && ../../scripts/quietly rt lib
+	@install -D -m 644 crates/velejume_c/out/libvelejume_c.a $@
 
-target/native/libvelejume.a: $(sources)
-	@echo 'proving and building the library for this processor (some minutes the first time)' >&2
-	@scripts/quietly scripts/native
-
-target/shared/libvelejume.so: target/staticlib/libvelejume.a scripts/shared scripts/exports
+target/shared/libvelejume.so: $(archive) scripts/shared scripts/exports
 	@scripts/shared
 
 # cargo knows what is newer
 .PHONY: rust/target/release/velejume
-rust/target/release/velejume: $(linked)
+rust/target/release/velejume: $(archive)
 	@cargo build --quiet --release --offline --manifest-path rust/Cargo.toml --target-dir rust/target --bin velejume

@@ -30,26 +30,23 @@ function phased(called, given, got, margins,   lent, held) {
     lent = sprintf("%s (replicate %s 2779096485)", lent, given[10])
     held = sprintf("%s; margins = %s", held, numbers(got[8]))
   }
-  printf "\nvector-%d : %s %s\n", ++made, called, lent
+  printf "\nvector_%d : %s %s\n", ++made, called, lent
   printf "    ≡ record { number = %s; second = %s; %s }\n", got[1], got[2], held
-  printf "unfolding opened\nvector-%d = refl\n", made
+  printf "unfolding opened\nvector_%d = refl\n", made
 }
 # whether all divisions of so many reads can be gone through
 function few(n, m) { return 2 ^ n * (n + 1) * m <= 3000 }
 BEGIN {
-  print "use Prim.Native.Nat.{ℕ}"
-  print "use mathlib.Core.Path.{_≡_, refl}"
-  print "use mathlib.Core.List.{List, [], _∷_}"
-  print "use Rattle·meaning.specs.Block.{latest, matrix_of}"
-  print "use Rattle·meaning.specs.Charge.{charge, least_cost}"
-  print "use Rattle·meaning.specs.Letters.{general, heterozygous}"
-  print "use Rattle·meaning.specs.Answer.{answer, answer_bytes}"
-  print "use Rattle·meaning.specs.Refusals.{Numbers, passed, refusal}"
-  print "use Rattle·meaning.specs.Call.{call_with}"
-  print "use Rattle·meaning.specs.Margins.{margin_call}"
-  print "use Rattle·meaning.specs.Convert.{converting}"
-  print "use lib.ListN.{replicate}"
-  print "use Rattle·meaning.specs.Opened.{opened}"
+  print "use Rattle.std.specs.Prelude.{◌≡◌, refl, [], ◌∷◌, replicate}"
+  print "use Rattle.meaning.specs.Block.{latest, matrix_of}"
+  print "use Rattle.meaning.specs.Charge.{charge, least_cost}"
+  print "use Rattle.meaning.specs.Letters.{general, heterozygous}"
+  print "use Rattle.meaning.specs.Answer.{answer, answer_bytes}"
+  print "use Rattle.meaning.specs.Refusals.{passed, refusal}"
+  print "use Rattle.meaning.specs.Call.{call_with}"
+  print "use Rattle.meaning.specs.Margins.{margin_call}"
+  print "use Rattle.meaning.specs.Convert.{converting}"
+  print "use Rattle.meaning.specs.Opened.{opened}"
 }
 /^#/ { next }
 /^mode=/ {
@@ -66,9 +63,9 @@ BEGIN {
   split($0, half, " -> ")
   split(half[1], given, /[ =]/)
   split(half[2], got, /[ =]/)
-  printf "\nvector-%d : converting %s (replicate %s 165)\n", ++made, bytes(given[2] == "." ? "" : given[2]), given[4]
+  printf "\nvector_%d : converting %s (replicate %s 165)\n", ++made, bytes(given[2] == "." ? "" : given[2]), given[4]
   printf "    ≡ record { number = %s; second = %s; out = %s }\n", got[1], got[2], bytes(got[4] == "." ? "" : got[4])
-  printf "unfolding opened\nvector-%d = refl\n", made
+  printf "unfolding opened\nvector_%d = refl\n", made
   next
 }
 !begun && /^$/ { begun = 1; next }
@@ -82,12 +79,12 @@ begun {
   at = bytes(block)
   if (word[1] == "refused") {
     if (length(block) > 1200) next
-    printf "\nvector-%d : refusal latest %s 16384 70000 ≡ record { number = %s; second = %s }\n", ++made, at, word[2], word[4]
-    printf "unfolding opened\nvector-%d = refl\n", made
+    printf "\nvector_%d : refusal latest %s 16384 70000 ≡ record { number = %s; second = %s }\n", ++made, at, word[2], word[4]
+    printf "unfolding opened\nvector_%d = refl\n", made
   } else {
     if (!few(n, m)) next
-    printf "\nvector-%d : (refusal latest %s 16384 70000 ≡ passed) × (least_cost charge (matrix_of %s) ≡ %s) × ", ++made, at, at, word[2]
+    printf "\nvector_%d : (refusal latest %s 16384 70000 ≡ passed) × (least_cost charge (matrix_of %s) ≡ %s) × ", ++made, at, at, word[2]
     printf "(answer general (matrix_of %s) ≡ answer_bytes %s %s %s %s %s)\n", at, word[2], word[4], letters(word[6]), letters(word[8]), letters(word[10])
-    printf "unfolding opened\nvector-%d = (refl, refl, refl)\n", made
+    printf "unfolding opened\nvector_%d = (refl, refl, refl)\n", made
   }
 }

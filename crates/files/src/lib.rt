@@ -144,7 +144,7 @@ fn not_had(error: FillError) -> Error {
     }
 }
 
-// The same for the file that argument i names.
+// The same as `read_input` for the file that argument i names.
 pub fn read_named(rt: &HostRuntime, program: &[u8], i: usize, room: &mut [u8]) -> Option<usize>
     ensures { IfSome result (λ n. n ≤ length room.old) }
 {

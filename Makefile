@@ -5,7 +5,7 @@
 # make lib                               the static library, target/staticlib/libvelejume.a
 # make shared                            the shared object, target/shared/libvelejume.so
 # make install [PREFIX=dir]              programs, libraries, header, pkg-config file, Python module, manual pages
-# make test                              the gate: proves everything from nothing, tries edits that must be refused, runs the tests
+# make test                              the gate: proves every crate, tries edits that must be refused, runs the tests
 # make bench                             the proved call beside an unproved solver
 # make soak [SEED=n COUNT=n]             differential tests, as many as you like
 # make clean                             removes all that was proved and built

@@ -55,7 +55,8 @@ fn column_by_rule(
     requires k_bound { 0 < at.j → (k : ℕ) → get_or (column_of (matrix_in shape reads.now) work.old (at.j - 1)) k 0 ≤ 4000000000 }
     requires w_len { (length w.old ≡ 12) × (length turn.old ≡ 12) }
     ensures work_after { work.new
-        ≡ laid (at.j * at.t) (rule_column (charge_in (mode_of at.heterozygous)) (matrix_in shape reads.now) at.j (column_of (matrix_in shape reads.now) work.old (at.j - 1)))
+        ≡ laid (at.j * at.t) (rule_column (charge_in (mode_of at.heterozygous)) (matrix_in shape reads.now) at.j
+        (column_of (matrix_in shape reads.now) work.old (at.j - 1)))
         work.old }
     ensures w_len_2 { (length w.new ≡ 12) × (length turn.new ≡ 12) }
 {

@@ -2,3 +2,4 @@ pub mod Reads
 pub mod Places
 pub mod Lists
 pub mod Ready
+pub mod Matrices

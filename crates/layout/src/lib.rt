@@ -6,6 +6,10 @@ ghost use Rattle.meaning.specs.Numbers.{big_endian, word, long};
 ghost use Rattle.layout.specs.Reads.{CellSize};
 ghost use Rattle.layout.specs.Places.{start_at, first_at, end_at};
 
+mod reads;
+
+pub use reads::{Listed, Placed, Reads};
+
 // The bytes of a cell, the columns m and the reads n.
 #[derive(Clone, Copy)]
 pub struct Shape {

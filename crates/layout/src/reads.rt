@@ -1,0 +1,44 @@
+// Reads that pass the checks, and the runs that are made of them, as types: who has one of these need not check again.
+ghost use Rattle.std.specs.Prelude.{◌≡◌};
+ghost use Rattle.layout.specs.Reads.{Lawful};
+ghost use Rattle.layout.specs.Places.{Noted};
+ghost use Rattle.layout.specs.Ready.{Ready};
+
+use crate::Shape;
+
+// Reads that pass the checks 1 to 7, and the bytes in which they lie.
+#[derive(Clone, Copy)]
+pub struct Reads<'a> {
+    pub shape: Shape,
+    pub bytes: &'a [u8],
+    ghost lawful: { Lawful shape bytes.now },
+}
+
+// With where each read lies.
+#[derive(Clone, Copy)]
+pub struct Placed<'a> {
+    pub reads: Reads<'a>,
+    pub places: &'a [u32],
+    ghost noted: { Noted reads.shape reads.bytes.now places.now },
+}
+
+// With each column's active reads too: no column has more than 12.
+#[derive(Clone, Copy)]
+pub struct Listed<'a> {
+    pub reads: Reads<'a>,
+    pub places: &'a [u32],
+    pub lists: &'a [u16],
+    ghost ready: { Ready reads.shape reads.bytes.now places.now lists.now },
+}
+
+impl<'a> Listed<'a> {
+    // Without the lists.
+    pub fn placed(&self) -> Placed<'a>
+        ensures { (result.reads ≡ self.now.reads) × (result.places ≡ self.now.places) }
+    {
+        Placed {
+            reads: self.reads,
+            places: self.places,
+        }
+    }
+}

@@ -13,7 +13,7 @@ use Rattle.meaning.specs.Active.{read, end, at}
 use Rattle.meaning.specs.Refusals.{bad_cell, bad_cells}
 use Rattle.meaning.proofs.Lists.{get_or-run}
 use Rattle.meaning.proofs.Refusals.{or_false_left}
-use Rattle.layout.specs.declared.Shape.{Shape}
+use Rattle.layout.specs.declared.shape.Shape.{Shape}
 use Rattle.layout.specs.Reads.{matrix_in, Lawful}
 use Rattle.layout.specs.Places.{start_at, first_at, end_at, cells_start, Noted, read_from}
 use Rattle.layout.proofs.Tests.{none_at}

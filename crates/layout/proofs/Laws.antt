@@ -18,8 +18,9 @@ use Rattle.meaning.proofs.Closing.{Placed, length-active}
 use Rattle.meaning.proofs.Bounds.{Light, Bytes, reads-light}
 use Rattle.meaning.proofs.Formed.{sound_placed, length-reads, get_or-reads, end_of, sound-end}
 use Rattle.meaning.proofs.Refusals.{or_false_left, or_false_right}
-use Rattle.layout.specs.declared.Shape.{Shape}
-use Rattle.layout.specs.Reads.{CellSize, matrix_in, Lawful}
+use Rattle.layout.specs.declared.shape.Shape.{Shape}
+use Rattle.layout.specs.Cells.{CellSize}
+use Rattle.layout.specs.Reads.{matrix_in, Lawful}
 use Rattle.layout.specs.Places.{read_start, cells_start}
 use Rattle.layout.specs.Lists.{Thin}
 use Rattle.layout.specs.Ready.{Ready}

@@ -3,7 +3,7 @@ use Rattle.std.specs.Prelude.{ℕ, zero, suc, ◌+◌, ◌*◌, ◌≤◌, ◌<�
 use Rattle.meaning.specs.Numbers.{run}
 use Rattle.meaning.specs.Block.{Read, length_field, cell_at}
 use Rattle.meaning.specs.Active.{read, end}
-use Rattle.layout.specs.declared.Shape.{Shape}
+use Rattle.layout.specs.declared.shape.Shape.{Shape}
 use Rattle.layout.specs.Reads.{matrix_in}
 
 -- what the run says of read r: where its cells start, its first column, the column after its last

@@ -2,15 +2,12 @@
 use Rattle.std.specs.Prelude.{ℕ, ◌≤◌, ◌<◌, List}
 use Rattle.meaning.specs.Block.{Matrix, after_reads, matrix_from}
 use Rattle.meaning.proofs.Formed.{Sound}
-use Rattle.layout.specs.declared.Shape.{Shape}
+use Rattle.layout.specs.Cells.{CellSize}
+use Rattle.layout.specs.declared.shape.Shape.{Shape}
 
 -- the matrix that they are
 abbrev pub matrix_in : Shape → List ℕ → Matrix
 matrix_in s reads = matrix_from s.size s.m s.n reads
-
--- a cell has two bytes, or three
-abbrev pub CellSize : ℕ → Type 0
-CellSize size = (2 ≤ size) × (size ≤ 3)
 
 -- what the checks of the header and the checks 5, 38, 6 and 7 leave: cells of such a size, m and n within their limits, each read sound
 pub record Lawful (s : Shape) (reads : List ℕ) : Type 0 where

@@ -1,6 +1,6 @@
 -- Reads that pass the checks 5 to 9, with both runs made.
 use Rattle.std.specs.Prelude.{List, ℕ}
-use Rattle.layout.specs.declared.Shape.{Shape}
+use Rattle.layout.specs.declared.shape.Shape.{Shape}
 use Rattle.layout.specs.Reads.{matrix_in, Lawful}
 use Rattle.layout.specs.Places.{Noted}
 use Rattle.layout.specs.Lists.{Piled}

@@ -2,6 +2,7 @@
 use Prim.Native.Nat.{ℕ, ◌*◌, ◌≤◌, ◌<◌}
 use mathlib.Core.Path.{◌≡◌, sym, ap, ◌∙◌}
 use mathlib.Core.List.{List}
+use Rattle.std.specs.Prelude.{Err}
 use native.Mathlib.Nat.{le_refl}
 use native.Mathlib.Omega.{arith}
 use lib.ListN.{length}
@@ -14,7 +15,11 @@ use Rattle.meaning.specs.Refusals.{Numbers, crowded, matrix_refusal}
 use Rattle.meaning.specs.Call.{over}
 use Rattle.meaning.specs.Judge.{verdict, judges, rejects, judging_on}
 use Rattle.meaning.proofs.Judging.{judging_on-accepts, judging_on-refuses}
+use Rattle.refusal.specs.declared.Refusal.{Refusal}
+use Rattle.refusal.specs.Numbers.{refusal_number, refusal_second, refusal_numbers}
+use Rattle.refusal.proofs.Laws.{refusal_nonzero}
 use Rattle.ready.specs.Piling.{ThinColumns}
+use Rattle.verdict.specs.Verdicts.{judged_of}
 use Rattle.ready.proofs.Refused.{refused_number, refused_9, refused_10, all_pass}
 
 module _ (M : Matrix) (a work : List ℕ) where
@@ -25,9 +30,10 @@ module _ (M : Matrix) (a work : List ℕ) where
   refusal-judging n s e l = sym (judging_on-refuses M a work (refused_number _ n s e l) ∙ ap (λ (x : Numbers). rejects x work) e)
 
   -- 9
-  pub crowded-judging : (j : ℕ) → crowded (active_count M) 0 M.columns ≡ record { number = 9; second = j }
-      → record { number = 9; second = j; work = work } ≡ judging_on M a work
-  crowded-judging j e = refusal-judging 9 j (refused_9 M (length work) (answer_size M) j e) (omega arith)
+  pub crowded-judging : (e : Refusal) → crowded (active_count M) 0 M.columns ≡ refusal_numbers e → judged_of (Err e) work ≡ judging_on M a work
+  crowded-judging e h =
+      let n = refusal_nonzero e in
+      refusal-judging (refusal_number e) (refusal_second e) (refused_9 M (length work) (answer_size M) (refusal_numbers e) h n) n
 
   module _ (t : ℕ) (h : ThinColumns M t) where
     -- 10

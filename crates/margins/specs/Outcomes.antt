@@ -1,23 +1,9 @@
--- What the solver that gives the margins too finds, as the result of a call with margins.
-use Rattle.std.specs.Prelude.{ℕ, List}
+-- What the solver that gives the margins too finds, the cost or a refusal, as the result of a call with margins.
+use Rattle.std.specs.Prelude.{ℕ, List, Result}
 use Rattle.meaning.specs.Margins.{MarginResult}
-use Rattle.margins.specs.declared.Outcome.{Outcome}
-use Rattle.margins.specs.declared.Outcome.TheVariants.{Crowded, Work, Output, Short, Cost}
-
-abbrev pub outcome_number : Outcome → ℕ
-outcome_number (Crowded j) = 9
-outcome_number (Work need) = 10
-outcome_number (Output need) = 11
-outcome_number (Short need) = 13
-outcome_number (Cost cost) = 0
-
-abbrev pub outcome_second : Outcome → ℕ
-outcome_second (Crowded j) = j
-outcome_second (Work need) = need
-outcome_second (Output need) = need
-outcome_second (Short need) = need
-outcome_second (Cost cost) = cost
+use Rattle.refusal.specs.declared.Refusal.{Refusal}
+use Rattle.refusal.specs.Numbers.{call_numbers}
 
 -- with what the three rooms hold afterwards
-abbrev pub result_of : Outcome → List ℕ → List ℕ → List ℕ → MarginResult
-result_of o work out margins = record { number = outcome_number o; second = outcome_second o; work = work; out = out; margins = margins }
+abbrev pub result_of : Result ℕ Refusal → List ℕ → List ℕ → List ℕ → MarginResult
+result_of o work out margins = record { number = (call_numbers o).number; second = (call_numbers o).second; work = work; out = out; margins = margins }

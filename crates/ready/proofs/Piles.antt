@@ -14,7 +14,7 @@ use Rattle.meaning.specs.Active.{count, read, active, active_count, most_active,
 use Rattle.meaning.specs.Refusals.{Numbers, crowded}
 use Rattle.meaning.proofs.Totals.{sum_bound}
 use Rattle.meaning.proofs.Closing.{Placed, length-active}
-use Rattle.layout.specs.declared.Shape.{Shape}
+use Rattle.layout.specs.declared.shape.Shape.{Shape}
 use Rattle.layout.specs.Reads.{matrix_in}
 use Rattle.layout.specs.Places.{first_at, end_at}
 use Rattle.layout.specs.Lists.{Holds}
@@ -48,6 +48,13 @@ entries-room M t n e h =
     bit_one : (t : Bool) → bit t ≤ 1
     bit_one true = omega arith
     bit_one false = omega arith
+
+-- a table has at most 2^21 entries
+pub table_fits : (s : Shape) (reads : List ℕ) (t : ℕ) → ThinColumns (matrix_in s reads) t → s.m * t ≤ 2097152
+table_fits s reads t h =
+    let w : t ≤ 2048 = le_trans (entries-room (matrix_in s reads) t s.n (count_is s reads) h) (pow_mono {j = 11} (omega arith)) in
+    let y : s.m * t ≤ 1024 * 2048 = mul-le-mul s.few_columns w in
+    omega arith
 
 module _ (s : Shape) (reads places lists : List ℕ) (p : Piling s reads places lists) where
   abbrev M : Matrix
@@ -95,12 +102,6 @@ module _ (s : Shape) (reads places lists : List ℕ) (p : Piling s reads places 
   module _ (t : ℕ) (h : ThinColumns M t) where
     pub heights_few : (j : ℕ) → j < s.m → height_at (first_at places) (end_at places) s.n j ≤ 12
     heights_few j l = le_trans (le_of_eq (height_active j)) (h.thin j l)
-
-    pub table_fits : s.m * t ≤ 2097152
-    table_fits =
-        let w : t ≤ 2048 = le_trans (entries-room M t s.n (count_is s reads) h) (pow_mono {j = 11} (omega arith)) in
-        let y : s.m * t ≤ 1024 * 2048 = mul-le-mul p.lawful.few-columns w in
-        omega arith
 
     -- what the lists say makes the reads ready
     pub piled-ready : (lists' : List ℕ) → length lists' ≡ length lists

@@ -26,9 +26,9 @@ pub refused_number : (x : Numbers) (n s : ℕ) → x ≡ record { number = n; se
 refused_number x n s e l z = let q : n ≡ 0 = sym (ap (λ (y : Numbers). y.number) e) ∙ z in omega arith
 
 module _ (M : Matrix) (work out : ℕ) where
-  pub refused_9 : (j : ℕ) → crowded (active_count M) 0 M.columns ≡ record { number = 9; second = j } → matrix_refusal M work out ≡ record { number = 9; second = j }
+  pub refused_9 : (x : Numbers) → crowded (active_count M) 0 M.columns ≡ x → 0 < x.number → matrix_refusal M work out ≡ x
   unfolding matrix_refusal
-  refused_9 j e = or_stop _ _ (refused_number _ 9 j e (omega arith)) ∙ e
+  refused_9 x e l = or_stop _ _ (refused_number _ x.number x.second e l) ∙ e
 
   module _ (t : ℕ) (h : ThinColumns M t) where
     work_is : M.columns * t ≡ work_size M

@@ -1,13 +1,13 @@
 -- What is known of the reads before the columns' lists are made.
-use Rattle.std.specs.Prelude.{ℕ, ◌*◌, ◌≤◌, ◌<◌, ◌≡◌, List, length}
+use Rattle.std.specs.Prelude.{ℕ, ◌*◌, ◌≤◌, ◌<◌, ◌≡◌, List, length, Result, Ok, Err}
 use Rattle.meaning.specs.Block.{Matrix}
 use Rattle.meaning.specs.Active.{active_count, entries}
 use Rattle.meaning.specs.Refusals.{crowded}
-use Rattle.layout.specs.declared.Shape.{Shape}
+use Rattle.layout.specs.declared.shape.Shape.{Shape}
 use Rattle.layout.specs.Reads.{Lawful}
 use Rattle.layout.specs.Places.{Noted}
-use Rattle.ready.specs.declared.Crowding.{Crowding}
-use Rattle.ready.specs.declared.Crowding.TheVariants.{Crowded, Thin}
+use Rattle.refusal.specs.declared.Refusal.{Refusal}
+use Rattle.refusal.specs.Numbers.{refusal_numbers}
 
 -- lawful reads, where they lie, and room for the lists
 pub record Piling (s : Shape) (reads places lists : List ℕ) : Type 0 where
@@ -20,7 +20,7 @@ pub record ThinColumns (M : Matrix) (t : ℕ) : Type 0 where
   pub thin : (j : ℕ) → j < M.columns → active_count M j ≤ 12
   pub entries_are : t ≡ entries M
 
--- check 9 applies with this column, or passes with this T
-abbrev pub ColumnsFound : Matrix → Crowding → Type 0
-ColumnsFound M (Crowded j) = crowded (active_count M) 0 M.columns ≡ record { number = 9; second = j }
-ColumnsFound M (Thin t) = ThinColumns M t
+-- check 9 applies with this refusal, or passes with this T
+abbrev pub ColumnsFound : Matrix → Result ℕ Refusal → Type 0
+ColumnsFound M (Err e) = crowded (active_count M) 0 M.columns ≡ refusal_numbers e
+ColumnsFound M (Ok t) = ThinColumns M t

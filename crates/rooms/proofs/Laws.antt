@@ -5,7 +5,7 @@ use native.Mathlib.Omega.{arith}
 use lib.ListN.{replicate}
 use lib.Pow.{pow_mono}
 use Rattle.meaning.specs.Active.{used}
-use Rattle.layout.specs.declared.Shape.{Shape}
+use Rattle.layout.specs.declared.shape.Shape.{Shape}
 use Rattle.solve.specs.Rooms.{Rooms}
 
 few_reads_room : (n : ℕ) → n ≤ 7 → used (min n 12) ≤ 128

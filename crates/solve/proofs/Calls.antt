@@ -2,6 +2,7 @@
 use Prim.Native.Nat.{ℕ, ◌+◌, ◌*◌, ◌≤◌, ◌<◌}
 use mathlib.Core.Path.{◌≡◌, sym, ap, ◌∙◌, subst}
 use mathlib.Core.List.{List}
+use Rattle.std.specs.Prelude.{Err}
 use native.Mathlib.Omega.{arith}
 use lib.ListN.{length}
 use Rattle.meaning.specs.Block.{Matrix}
@@ -13,7 +14,11 @@ use Rattle.meaning.specs.Answer.{answer, answer_size}
 use Rattle.meaning.specs.Refusals.{Numbers, crowded, matrix_refusal}
 use Rattle.meaning.specs.Call.{over, accepts, refuses, call_on}
 use Rattle.meaning.proofs.Call.{on_accepts, on_refuses}
+use Rattle.refusal.specs.declared.Refusal.{Refusal}
+use Rattle.refusal.specs.Numbers.{refusal_number, refusal_second, refusal_numbers}
+use Rattle.refusal.proofs.Laws.{refusal_nonzero}
 use Rattle.ready.specs.Piling.{ThinColumns}
+use Rattle.solve.specs.Outcomes.{result_of}
 use Rattle.ready.proofs.Refused.{refused_number, refused_9, refused_10, refused_11, all_pass}
 
 module _ (mode : Mode) (M : Matrix) (work out : List ℕ) where
@@ -24,9 +29,10 @@ module _ (mode : Mode) (M : Matrix) (work out : List ℕ) where
   refusal-call n s e l = sym (on_refuses mode M work out (refused_number _ n s e l) ∙ ap (λ (x : Numbers). refuses x work out) e)
 
   -- 9
-  pub crowded-call : (j : ℕ) → crowded (active_count M) 0 M.columns ≡ record { number = 9; second = j }
-      → record { number = 9; second = j; work = work; out = out } ≡ call_on mode M work out
-  crowded-call j e = refusal-call 9 j (refused_9 M (length work) (length out) j e) (omega arith)
+  pub crowded-call : (e : Refusal) → crowded (active_count M) 0 M.columns ≡ refusal_numbers e → result_of (Err e) work out ≡ call_on mode M work out
+  crowded-call e h =
+      let n = refusal_nonzero e in
+      refusal-call (refusal_number e) (refusal_second e) (refused_9 M (length work) (length out) (refusal_numbers e) h n) n
 
   module _ (t : ℕ) (h : ThinColumns M t) where
     -- 10

@@ -1,21 +1,9 @@
--- What the solver finds, as the result of a call.
-use Rattle.std.specs.Prelude.{ℕ, List}
+-- What the solver finds, the cost or a refusal, as the result of a call.
+use Rattle.std.specs.Prelude.{ℕ, List, Result as Answer}
 use Rattle.meaning.specs.Call.{Result}
-use Rattle.solve.specs.declared.Outcome.{Outcome}
-use Rattle.solve.specs.declared.Outcome.TheVariants.{Crowded, Work, Output, Cost}
-
-abbrev pub outcome_number : Outcome → ℕ
-outcome_number (Crowded j) = 9
-outcome_number (Work need) = 10
-outcome_number (Output need) = 11
-outcome_number (Cost cost) = 0
-
-abbrev pub outcome_second : Outcome → ℕ
-outcome_second (Crowded j) = j
-outcome_second (Work need) = need
-outcome_second (Output need) = need
-outcome_second (Cost cost) = cost
+use Rattle.refusal.specs.declared.Refusal.{Refusal}
+use Rattle.refusal.specs.Numbers.{call_numbers}
 
 -- with what both rooms hold afterwards
-abbrev pub result_of : Outcome → List ℕ → List ℕ → Result
-result_of o work out = record { number = outcome_number o; second = outcome_second o; work = work; out = out }
+abbrev pub result_of : Answer ℕ Refusal → List ℕ → List ℕ → Result
+result_of o work out = record { number = (call_numbers o).number; second = (call_numbers o).second; work = work; out = out }

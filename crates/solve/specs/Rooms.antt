@@ -1,7 +1,7 @@
 -- Room to work in.
 use Rattle.std.specs.Prelude.{ℕ, ◌*◌, ◌≤◌, min, ◌≡◌, List, length, replicate}
 use Rattle.meaning.specs.Active.{used}
-use Rattle.layout.specs.declared.Shape.{Shape}
+use Rattle.layout.specs.declared.shape.Shape.{Shape}
 
 -- three numbers a read, thirteen a column, all zeros, and a run that serves for what a column takes over and afterwards for the tally
 pub record Rooms (s : Shape) (places lists scratch : List ℕ) : Type 0 where

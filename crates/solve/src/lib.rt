@@ -5,90 +5,69 @@ ghost use Rattle.std.specs.Prelude.{◌≡◌, ◌*◌, ◌≤◌, min, length};
 ghost use Rattle.meaning.specs.Active.{used};
 ghost use Rattle.meaning.specs.Letters.{mode_of};
 ghost use Rattle.meaning.specs.Call.{call_on};
-ghost use Rattle.layout.specs.Reads.{matrix_in, Lawful};
-ghost use Rattle.ready.specs.Piling.{Piling, ThinColumns};
+ghost use Rattle.layout.specs.Matrices.{matrix_of};
+ghost use Rattle.ready.specs.Piling.{ThinColumns};
 ghost use Rattle.solve.specs.Rooms.{Rooms};
 ghost use Rattle.solve.specs.Outcomes.{result_of};
 
-// What the solver finds in reads that pass the checks 5 to 8: 9 with the column, 10 or 11 with the size needed, or the cost.
-#[derive(Clone, Copy)]
-pub enum Outcome {
-    Crowded(u32),
-    Work(u32),
-    Output(u32),
-    Cost(u32),
-}
+use layout::{Listed, Placed, Reads};
+use refusal::Refusal;
 
-// The checks 10 and 11, then the table and the answer. `t` is T.
+// The checks 10 and 11, then the table, the answer and its cost. `t` is T.
 fn sized(
-    shape: layout::Shape,
-    reads: &[u8],
-    places: &[u32],
+    placed: &Placed,
     lists: &mut [u16],
     t: usize,
     heterozygous: bool,
     scratch: &mut [u32],
     work: &mut [u32],
     out: &mut [u8],
-) -> Outcome
-    requires piling { Piling shape reads.now places.now lists.old }
-    requires thin_columns { ThinColumns (matrix_in shape reads.now) t }
-    requires n_in_bounds { (used (min shape.n 12) ≤ length scratch.old) × (4 * shape.m ≤ length scratch.old) }
+) -> Result<u32, Refusal>
+    requires lists_room { 13 * placed.now.reads.shape.m ≤ length lists.old }
+    requires thin_columns { ThinColumns (matrix_of placed.now.reads) t }
+    requires n_in_bounds { (used (min placed.now.reads.shape.n 12) ≤ length scratch.old)
+        × (4 * placed.now.reads.shape.m ≤ length scratch.old) }
     ensures { result_of result work.new out.new
-        ≡ call_on (mode_of heterozygous) (matrix_in shape reads.now) work.old out.old }
+        ≡ call_on (mode_of heterozygous) (matrix_of placed.now.reads) work.old out.old }
 {
+    let shape = placed.reads.shape;
     let need = shape.m * t;
     if work.len() < need {
-        return Outcome::Work(need as u32);
+        return Err(Refusal::Work(need as u32));
     }
     let size = 17 + shape.n + 2 * shape.m;
     if out.len() < size {
-        return Outcome::Output(size as u32);
+        return Err(Refusal::Output(size as u32));
     }
-    ready::tabled(shape, reads, places, lists, t, heterozygous, scratch, work);
-    let cost = written::write_answer(
-        shape,
-        reads,
-        places,
+    ready::tabled(placed, lists, t, heterozygous, scratch, work);
+    let listed = Listed {
+        reads: placed.reads,
+        places: placed.places,
         lists,
-        t,
-        heterozygous,
-        work,
-        scratch,
-        out,
-    );
-    Outcome::Cost(cost)
+    };
+    let cost = written::write_answer(&listed, t, heterozygous, work, scratch, out);
+    Ok(cost)
 }
 
-// Solves reads that pass the checks 5 to 8, in the mode of the flag. The last three runs are room to work in.
+// Solves reads that pass the checks 5 to 8, in the mode of the flag: 9 with the column, 10 or 11 with the size needed, or the cost. The last
+// three runs are room to work in.
 pub fn solve(
-    shape: layout::Shape,
-    reads: &[u8],
+    reads: &Reads,
     heterozygous: bool,
     work: &mut [u32],
     out: &mut [u8],
     places: &mut [u32],
     lists: &mut [u16],
     scratch: &mut [u32],
-) -> Outcome
-    requires lawful { Lawful shape reads.now }
-    requires rooms { Rooms shape places.old lists.old scratch.old }
+) -> Result<u32, Refusal>
+    requires rooms { Rooms reads.now.shape places.old lists.old scratch.old }
     ensures { result_of result work.new out.new
-        ≡ call_on (mode_of heterozygous) (matrix_in shape reads.now) work.old out.old }
+        ≡ call_on (mode_of heterozygous) (matrix_of reads.now) work.old out.old }
 {
-    let c = ready::piled(shape, reads, places, lists);
-    match c {
-        ready::Crowding::Crowded(j) => Outcome::Crowded(j),
-        ready::Crowding::Thin(t) => sized(
-            shape,
-            reads,
-            places,
-            lists,
-            t,
-            heterozygous,
-            scratch,
-            work,
-            out,
-        ),
-    }
+    let t = ready::piled(reads, places, lists)?;
+    let placed = Placed {
+        reads: *reads,
+        places,
+    };
+    sized(&placed, lists, t, heterozygous, scratch, work, out)
 }

@@ -13,7 +13,7 @@ use Rattle.meaning.specs.Judge.{rejects, judging_on, judging}
 use Rattle.meaning.proofs.Call.{call_on_lem, call-block}
 use Rattle.meaning.proofs.MarginCall.{margin_call_on_lem, margin_call-block}
 use Rattle.meaning.proofs.Judging.{judging_on_lem, judging-block}
-use Rattle.layout.specs.declared.Shape.{Shape}
+use Rattle.layout.specs.declared.shape.Shape.{Shape}
 use Rattle.layout.specs.Reads.{matrix_in}
 use Rattle.block.specs.Answers.{Passes}
 use Rattle.block.proofs.BlockChecks.{part_is}

@@ -12,11 +12,11 @@ lists-requires c =
 pub fill_table-requires : goal.fill_table-requires
 fill_table-requires c =
     -- once the lists are made the reads are ready
-    let made : let a = c.args in Ready a.shape a.reads.now a.places.now c.lists.new.lists = piled-ready _ _ _ _ c.requires.piling c.args.t c.requires.thin_columns c.lists.new.lists c.lists.auto.lists c.lists.ensures in
+    let made : let a = c.args in Ready a.placed.now.reads.shape a.placed.now.reads.bytes.now a.placed.now.places.now c.lists.new.lists = piled-ready _ _ _ _ c.requires.piling c.args.t c.requires.thin_columns c.lists.new.lists c.lists.auto.lists c.lists.ensures in
     let h = c.requires.thin_columns in
-    record { ready = made; t_value = h.entries_are; t_in_bounds = (le_trans (entries-room _ _ _ (count_is c.args.shape c.args.reads.now) h) c.requires.n_in_bounds.0, c.requires.n_in_bounds.1) }
+    record { ready = made; t_value = h.entries_are; t_in_bounds = (le_trans (entries-room _ _ _ (count_is c.args.placed.now.reads.shape c.args.placed.now.reads.bytes.now) h) c.requires.n_in_bounds.0, c.requires.n_in_bounds.1) }
 
 pub returns : goal.returns
 returns c =
-    let made : let a = c.args in Ready a.shape a.reads.now a.places.now c.lists.new.lists = piled-ready _ _ _ _ c.requires.piling c.args.t c.requires.thin_columns c.lists.new.lists c.lists.auto.lists c.lists.ensures in
+    let made : let a = c.args in Ready a.placed.now.reads.shape a.placed.now.reads.bytes.now a.placed.now.places.now c.lists.new.lists = piled-ready _ _ _ _ c.requires.piling c.args.t c.requires.thin_columns c.lists.new.lists c.lists.auto.lists c.lists.ensures in
     record { ready = made; work_after = c.fill_table.ensures }

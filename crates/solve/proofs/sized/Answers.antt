@@ -3,7 +3,7 @@ use Prim.Native.Nat.{◌*◌, ◌≤◌}
 use mathlib.Core.Path.{sym}
 use native.Mathlib.Nat.{le_trans, le_of_eq}
 use Rattle.meaning.specs.Letters.{charge_in, mode_of}
-use Rattle.layout.specs.Reads.{matrix_in}
+use Rattle.layout.specs.Matrices.{matrix_of}
 use Rattle.layout.proofs.Laws.{count_is}
 use Rattle.ready.proofs.Piles.{table_fits}
 use Rattle.ready.proofs.Refused.{columns-right}
@@ -12,45 +12,39 @@ use Rattle.solve.proofs.sized.Goals as goal
 
 pub overflow_mul-need : goal.overflow_mul-need
 overflow_mul-need c =
-    -- the table's size
-    let fits : c.args.shape.m * c.args.t ≤ 2097152 = table_fits _ _ _ _ c.requires.piling c.args.t c.requires.thin_columns in
-    omega (arith, fits)
+    let r = c.args.placed.now.reads in
+    omega (arith, table_fits r.shape r.bytes.now c.args.t c.requires.thin_columns)
 
 pub overflow_cast-result : goal.overflow_cast-result
 overflow_cast-result c =
-    let fits : c.args.shape.m * c.args.t ≤ 2097152 = table_fits _ _ _ _ c.requires.piling c.args.t c.requires.thin_columns in
-    omega (arith, fits)
+    let r = c.args.placed.now.reads in
+    omega (arith, table_fits r.shape r.bytes.now c.args.t c.requires.thin_columns)
 
 pub returns-then-work-need : goal.returns-then-work-need
-returns-then-work-need c = work-call (mode_of c.args.heterozygous) (matrix_in c.args.shape c.args.reads.now) c.args.work.now c.args.out.now c.args.t c.requires.thin_columns c.if-work-need.true
-
-pub overflow_add-size : goal.overflow_add-size
-overflow_add-size c = omega (arith, c.requires.piling.lawful.few-columns, c.requires.piling.lawful.few-reads)
-
-pub overflow_mul-size : goal.overflow_mul-size
-overflow_mul-size c = omega (arith, c.requires.piling.lawful.few-columns, c.requires.piling.lawful.few-reads)
-
-pub overflow_add-size-2 : goal.overflow_add-size-2
-overflow_add-size-2 c = omega (arith, c.requires.piling.lawful.few-columns, c.requires.piling.lawful.few-reads)
-
-pub overflow_cast-result-then-out-size : goal.overflow_cast-result-then-out-size
-overflow_cast-result-then-out-size c = omega (arith, c.requires.piling.lawful.few-columns, c.requires.piling.lawful.few-reads)
+returns-then-work-need c = work-call (mode_of c.args.heterozygous) (matrix_of c.args.placed.now.reads) c.args.work.now c.args.out.now c.args.t c.requires.thin_columns c.if-work-need.true
 
 pub returns-then-out-size : goal.returns-then-out-size
 returns-then-out-size c =
-    output_call (mode_of c.args.heterozygous) (matrix_in c.args.shape c.args.reads.now) c.args.work.now c.args.out.now c.args.t c.requires.thin_columns c.if-work-need.false c.args.shape.n
-    (count_is c.args.shape c.args.reads.now) c.if-out-size.true
+    let r = c.args.placed.now.reads in
+    output_call (mode_of c.args.heterozygous) (matrix_of r) c.args.work.now c.args.out.now c.args.t c.requires.thin_columns c.if-work-need.false r.shape.n
+    (count_is r.shape r.bytes.now) c.if-out-size.true
 
 pub tabled-requires : goal.tabled-requires
-tabled-requires c = record { piling = c.requires.piling; thin_columns = c.requires.thin_columns; n_in_bounds = (c.requires.n_in_bounds.0, c.if-work-need.false) }
+tabled-requires c = record { lists_room = c.requires.lists_room; thin_columns = c.requires.thin_columns; n_in_bounds = (c.requires.n_in_bounds.0, c.if-work-need.false) }
 
 pub write_answer-cost-requires : goal.write_answer-cost-requires
 write_answer-cost-requires c =
-    let f = c.tabled in record { ready = f.ensures.ready; t_value = (c.requires.thin_columns.entries_are, columns-right (charge_in (mode_of c.args.heterozygous)) (matrix_in c.args.shape c.args.reads.now) c.args.work.now _ f.ensures.work_after); t_in_bounds = (le_trans c.if-work-need.false (le_of_eq (sym f.auto.work)), le_trans c.requires.n_in_bounds.1 (le_of_eq (sym f.auto.taken))); m_in_bounds = c.if-out-size.false }
+    let f = c.tabled in
+    record {
+      t_value = (c.requires.thin_columns.entries_are, columns-right (charge_in (mode_of c.args.heterozygous)) (matrix_of c.args.placed.now.reads) c.args.work.now _ f.ensures.work_after);
+      t_in_bounds = (le_trans c.if-work-need.false (le_of_eq (sym f.auto.work)), le_trans c.requires.n_in_bounds.1 (le_of_eq (sym f.auto.taken)));
+      m_in_bounds = c.if-out-size.false;
+    }
 
 pub returns : goal.returns
 returns c =
+    let r = c.args.placed.now.reads in
     let f = c.tabled in
     let w = c.write_answer-cost in
-    cost-call (mode_of c.args.heterozygous) (matrix_in c.args.shape c.args.reads.now) c.args.work.now c.args.out.now c.args.t c.requires.thin_columns c.if-work-need.false c.args.shape.n
-    (count_is c.args.shape c.args.reads.now) f.new.work w.new.out w.result c.if-out-size.false w.ensures.value f.ensures.work_after w.ensures.out_after
+    cost-call (mode_of c.args.heterozygous) (matrix_of r) c.args.work.now c.args.out.now c.args.t c.requires.thin_columns c.if-work-need.false r.shape.n
+    (count_is r.shape r.bytes.now) f.new.work w.new.out w.result c.if-out-size.false w.ensures.value f.ensures.work_after w.ensures.out_after

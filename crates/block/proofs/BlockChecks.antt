@@ -1,4 +1,4 @@
--- The checks 1 to 8 one after the other, as the arms of `checked` and `check_reads` meet them.
+-- The checks 1 to 8 one after the other, as `checked` meets them.
 use Prim.Native.Nat.{ℕ, ◌+◌, ◌-◌, ◌≤◌, ◌<◌}
 use mathlib.Core.Bool.{Bool, true, false}
 use mathlib.Core.List.{List}
@@ -12,9 +12,9 @@ use Rattle.meaning.specs.Block.{latest, columns_field, reads_field, cell_size, a
 use Rattle.meaning.specs.Refusals.{Numbers, passed, refuse, or_else, header_refusal, reads_fault, left_over, block_refusal}
 use Rattle.meaning.proofs.Formed.{reads-sound}
 use Rattle.meaning.proofs.Refusals.{or_pass, or_stop}
-use Rattle.layout.specs.declared.Shape.{Shape}
+use Rattle.layout.specs.declared.shape.Shape.{Shape}
 use Rattle.header.specs.Header.{Sized}
-use Rattle.block.specs.Answers.{Passes}
+use Rattle.layout.specs.Reads.{matrix_in, Lawful}
 
 module _ (b : List ℕ) where
   -- the reads, as the code cuts them off
@@ -41,6 +41,21 @@ module _ (b : List ℕ) where
     pub search_stop : (x : Numbers) → x ≡ search → x.number ≢ 0 → x ≡ block_refusal latest b
     search_stop x e z = e ∙ sym (or_stop search _ (λ q. z (ap (λ (y : Numbers). y.number) e ∙ q))) ∙ behind_header
 
+    -- the reads and the matrix of a block whose search finds no fault
+    pub reads_lawful : passed ≡ search → Lawful s (reads_part b)
+    reads_lawful found =
+        record {
+          cell = sized.cell;
+          some-column = sized.some-column;
+          few-columns = sized.few-columns;
+          few-reads = sized.few-reads;
+          sound = reads-sound s.size s.m s.n 0 (reads_part b) (ap (λ (y : Numbers). y.number) (sym found));
+        }
+
+    pub same_matrix : matrix_in s (reads_part b) ≡ matrix_of b
+    unfolding matrix_of
+    same_matrix = simp (sized.size_is, sized.columns, sized.reads)
+
     module _ (found : passed ≡ search) (at : ℕ) (end : at + length (after_reads s.n (reads_part b)) ≡ length (reads_part b)) where
       behind_search : (t : Bool) → left_over b ≡ t → refuse t 8 0 ≡ block_refusal latest b
       behind_search t e =
@@ -58,19 +73,3 @@ module _ (b : List ℕ) where
       pub none_left : length (reads_part b) ≤ at → passed ≡ block_refusal latest b
       unfolding left_over refuse
       none_left h = behind_search false (le-ltb 0 (length (after_reads (reads_field b) (reads_part b))) (omega (arith, rest_is)))
-
-      pub block_passes : length (reads_part b) ≤ at → Passes b s
-      unfolding matrix_of
-      block_passes h =
-          record {
-            matrix_is = simp (sized.size_is, sized.columns, sized.reads);
-            lawful = record {
-              cell = sized.cell;
-              some-column = sized.some-column;
-              few-columns = sized.few-columns;
-              few-reads = sized.few-reads;
-              sound = reads-sound s.size s.m s.n 0 (reads_part b) (ap (λ (y : Numbers). y.number) (sym found));
-            };
-            nine = sized.nine;
-            formed = ap (λ (y : Numbers). y.number) (sym (none_left h));
-          }

@@ -1,60 +1,43 @@
 // A fragment block's header: the checks 1 to 4, and the shape of the reads behind it.
 #![tactic(auto)]
 
-ghost use Rattle.std.specs.Prelude.{◌≡◌};
+ghost use Rattle.std.specs.Prelude.{◌≡◌, IfOk};
 ghost use Rattle.meaning.specs.Block.{latest};
 ghost use Rattle.meaning.specs.Refusals.{header_refusal};
-ghost use Rattle.header.specs.Header.{size_of, header_number, HeaderSizes};
+ghost use Rattle.refusal.specs.Numbers.{checked_numbers};
+ghost use Rattle.header.specs.Header.{size_of, Sized};
 
-// What a header says: which of the checks 1 to 4 applies, or the shape of its reads.
-#[derive(Clone, Copy)]
-pub enum Header {
-    Short,
-    Version,
-    Size,
-    Counts,
-    Sizes(layout::Shape),
-}
+use layout::Shape;
+use refusal::Refusal;
 
 // The bytes of a cell: two in version 1, three in version 2, and none in another.
-fn cell_size(version: u8) -> usize
+#[tactic(auto, unfolding(crate::specs::Header::size_of))]
+fn cell_size(version: u8) -> Option<usize>
     ensures { result ≡ size_of version }
 {
-    if version == 1 {
-        return 2;
+    match version {
+        1 => Some(2),
+        2 => Some(3),
+        _ => None,
     }
-    if version == 2 { 3 } else { 0 }
 }
 
 // The checks 1 to 4.
-pub fn check_header(block: &[u8]) -> Header
-    ensures result_value { header_number result ≡ header_refusal latest block.now }
-    ensures header_sizes { HeaderSizes block.now result }
+pub fn check_header(block: &[u8]) -> Result<Shape, Refusal>
+    ensures result_value { checked_numbers result ≡ header_refusal latest block.now }
+    ensures header_sizes { IfOk result (Sized block.now) }
 {
     if block.len() < 9 {
-        return Header::Short;
+        return Err(Refusal::Short);
     }
-    let size = cell_size(block[0]);
-    if size == 0 {
-        return Header::Version;
-    }
+    let size = cell_size(block[0]).ok_or(Refusal::Version)?;
     if layout::long_at(block, 1) != block.len() - 5 {
-        return Header::Size;
+        return Err(Refusal::Size);
     }
     let m = layout::word_at(block, 5);
     let n = layout::word_at(block, 7);
-    if m == 0 {
-        return Header::Counts;
+    if m == 0 || m > 1024 || n > 1024 {
+        return Err(Refusal::Counts);
     }
-    if m > 1024 {
-        return Header::Counts;
-    }
-    if n > 1024 {
-        return Header::Counts;
-    }
-    Header::Sizes(layout::Shape {
-        size: size,
-        m: m,
-        n: n,
-    })
+    Ok(Shape { size, m, n })
 }

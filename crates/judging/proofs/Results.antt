@@ -17,7 +17,7 @@ use Rattle.meaning.specs.Judge.{verdict, judges, rejects, judging_on}
 use Rattle.meaning.proofs.Judging.{judging_on-accepts, judging_on-refuses}
 use Rattle.refusal.specs.declared.Refusal.{Refusal}
 use Rattle.refusal.specs.Numbers.{refusal_number, refusal_second, refusal_numbers}
-use Rattle.refusal.proofs.Laws.{refusal_nonzero}
+use Rattle.refusal.proofs.Told.{refusal_above}
 use Rattle.ready.specs.Piling.{ThinColumns}
 use Rattle.verdict.specs.Verdicts.{judged_of}
 use Rattle.ready.proofs.Refused.{refused_number, refused_9, refused_10, all_pass}
@@ -32,7 +32,7 @@ module _ (M : Matrix) (a work : List ℕ) where
   -- 9
   pub crowded-judging : (e : Refusal) → crowded (active_count M) 0 M.columns ≡ refusal_numbers e → judged_of (Err e) work ≡ judging_on M a work
   crowded-judging e h =
-      let n = refusal_nonzero e in
+      let n = refusal_above e in
       refusal-judging (refusal_number e) (refusal_second e) (refused_9 M (length work) (answer_size M) (refusal_numbers e) h n) n
 
   module _ (t : ℕ) (h : ThinColumns M t) where

@@ -77,7 +77,7 @@ module _ (size m : ℕ) (b : List ℕ) where
 
 -- where the cells lie of the read at `at` that passes the check 5, for its length field `len`
 pub cells_lie : (size : ℕ) (reads : List ℕ) (at len : ℕ) → at ≤ length reads → length_field (drop at reads) ≡ len
-    → bad_length size (drop at reads) ≡ false → CellsLie size reads at (at + 4) (at + len + 2)
+    → bad_length size (drop at reads) ≡ false → CellsLie size reads at (record { start = at + 4; end = at + len + 2 })
 cells_lie size reads at len l e h =
     let f : Filled size (drop at reads) = filled size (drop at reads) h in
     record { starts = refl; ends = omega arith; filled = omega arith; inside = omega (arith, length-drop at reads) }

@@ -13,7 +13,7 @@ use borrow.Author.Tests.{eqb-true, eqb-false}
 use Rattle.meaning.specs.Numbers.{word}
 use Rattle.meaning.specs.Block.{length_field, first_field, cell_count, after_reads}
 use Rattle.meaning.specs.Active.{read, end}
-use Rattle.layout.specs.declared.Shape.{Shape}
+use Rattle.layout.specs.declared.shape.Shape.{Shape}
 use Rattle.layout.specs.Reads.{matrix_in, Lawful}
 use Rattle.layout.specs.Places.{start_at, first_at, end_at, read_start, cells_start}
 use Rattle.layout.proofs.Fields.{length_field_lem, first_field_lem}

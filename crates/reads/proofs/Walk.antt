@@ -14,7 +14,11 @@ use borrow.Author.Tests.{eq-eqb, ne_eqb}
 use Rattle.meaning.specs.Numbers.{any_to}
 use Rattle.meaning.specs.Block.{length_field, cell_count, cells_part, cell_at, after_read, after_reads}
 use Rattle.meaning.specs.Refusals.{Numbers, passed, bad_length, retired, bad_place, bad_cells, read_fault, reads_fault}
-use Rattle.layout.specs.declared.Shape.{Shape}
+use Rattle.refusal.specs.declared.Refusal.{Refusal}
+use Rattle.refusal.specs.Numbers.{refusal_number, refusal_second, refusal_numbers}
+use Rattle.refusal.proofs.Told.{refusal-numbered}
+use Rattle.layout.specs.declared.shape.Shape.{Shape}
+use Rattle.reads.specs.declared.Cells.{Cells}
 use Rattle.reads.specs.Search.{head_fault, CellsLie}
 use Rattle.reads.specs.Cells.{faulty_cell}
 use Rattle.reads.proofs.CellChecks.{found_faulty, none_faulty}
@@ -27,7 +31,7 @@ module _ (size m : ℕ) (b : List ℕ) where
   abbrev faulty : Bool
   faulty = bad_cells (cell_count size b) (cell_at size (cells_part b))
 
-  pub head_stop : (f : ℕ) → f ≡ head_fault size m b → f ≢ 0 → f ≡ read_fault size m b
+  head_stop : (f : ℕ) → f ≡ head_fault size m b → f ≢ 0 → f ≡ read_fault size m b
   unfolding read_fault
   head_stop f e z = go (bad_length size b) (retired size b) (bad_place size m b) e
     where
@@ -57,18 +61,18 @@ cell-inside size n i h =
     let below : suc i * size ≤ n / size * size = mul-le-mul_right size h in
     omega (arith, div-add-mod' n size)
 
--- the cells of the read at `at`, as the part of the bytes that starts at `start` and ends at `end`
-module _ (size : ℕ) (some : 0 < size) (reads : List ℕ) (at start end : ℕ) (lie : CellsLie size reads at start end) where
+-- the cells of the read at `at`, as the part of the bytes where they lie
+module _ (size : ℕ) (some : 0 < size) (reads : List ℕ) (at : ℕ) (cells : Cells) (lie : CellsLie size reads at cells) where
   abbrev part : List ℕ
-  part = take (end - start) (drop start reads)
+  part = take (cells.end - cells.start) (drop cells.start reads)
 
   cells_are : part ≡ cells_part (drop at reads)
   cells_are =
-      let e : end - start ≡ length_field (drop at reads) - 2 = omega arith in
+      let e : cells.end - cells.start ≡ length_field (drop at reads) - 2 = omega arith in
       ap₂ (λ (n : ℕ) (l : List ℕ). take n l) e (ap (λ (k : ℕ). drop k reads) lie.starts ∙ sym (drop-drop 4 at reads))
 
   cells-filled : length part ≡ size * cell_count size (drop at reads)
-  cells-filled = length-take (end - start) (drop start reads) ∙ omega (arith, length-drop start reads)
+  cells-filled = length-take (cells.end - cells.start) (drop cells.start reads) ∙ omega (arith, length-drop cells.start reads)
 
   count_is : length part / size ≡ cell_count size (drop at reads)
   count_is = div-eq_of_eq-mul_right some cells-filled
@@ -123,6 +127,13 @@ module _ (s : Shape) (reads : List ℕ) (at r : ℕ) (left : Left s reads at r) 
 
   pub left_stop : (f : ℕ) → r < s.n → f ≡ fault_of s here → f ≢ 0 → record { number = f; second = r } ≡ fault_from s s.n 0 reads
   left_stop f h e z = ap (λ (k : ℕ). record { number = k; second = r }) e ∙ sym (by_read h false (ne_eqb _ 0 (λ q. z (e ∙ q))))
+
+  -- the checks 5, 38 and 6 refuse the read at `at`
+  pub head_refused : (e : Refusal) → r < s.n → refusal_number e ≡ head_fault s.size s.m here → refusal_second e ≡ r
+      → refusal_numbers e ≡ fault_from s s.n 0 reads
+  head_refused e h n k =
+      ap (λ (x : ℕ). record { number = refusal_number e; second = x }) k
+      ∙ left_stop (refusal_number e) h (head_stop s.size s.m here _ n (refusal-numbered e)) (refusal-numbered e)
 
   pub left_on : (end : ℕ) → r < s.n → 0 ≡ fault_of s here → end ≡ at + (2 + length_field here) → Left s reads end (r + 1)
   unfolding after_reads

@@ -16,7 +16,7 @@ use Rattle.meaning.specs.Call.{over, accepts, refuses, call_on}
 use Rattle.meaning.proofs.Call.{on_accepts, on_refuses}
 use Rattle.refusal.specs.declared.Refusal.{Refusal}
 use Rattle.refusal.specs.Numbers.{refusal_number, refusal_second, refusal_numbers}
-use Rattle.refusal.proofs.Laws.{refusal_nonzero}
+use Rattle.refusal.proofs.Told.{refusal_above}
 use Rattle.ready.specs.Piling.{ThinColumns}
 use Rattle.solve.specs.Outcomes.{result_of}
 use Rattle.ready.proofs.Refused.{refused_number, refused_9, refused_10, refused_11, all_pass}
@@ -31,7 +31,7 @@ module _ (mode : Mode) (M : Matrix) (work out : List ℕ) where
   -- 9
   pub crowded-call : (e : Refusal) → crowded (active_count M) 0 M.columns ≡ refusal_numbers e → result_of (Err e) work out ≡ call_on mode M work out
   crowded-call e h =
-      let n = refusal_nonzero e in
+      let n = refusal_above e in
       refusal-call (refusal_number e) (refusal_second e) (refused_9 M (length work) (length out) (refusal_numbers e) h n) n
 
   module _ (t : ℕ) (h : ThinColumns M t) where

@@ -9,10 +9,7 @@ use Rattle.reads.proofs.first_fault.Given as goal
 
 -- `first_fault` meets its contract. Of the cells passed none is faulty; of the reads passed, what is left gives what all give.
 abbrev pub invariant-loop-i : goal.invariant-loop-i
-invariant-loop-i l = (l.i ≤ l.count) × (any_to l.i (faulty_cell l.size l.cells) ≡ false)
-
-abbrev pub decreases-loop-i : goal.decreases-loop-i
-decreases-loop-i l = l.count - l.i
+invariant-loop-i l = any_to l.i (faulty_cell l.shape.size l.cells) ≡ false
 
 abbrev pub invariant-reads : goal.invariant-reads
 invariant-reads l = (l.at ≤ length l.reads) × (l.r ≤ l.shape.n) × Left l.shape l.reads l.at l.r

@@ -1,13 +1,10 @@
 use mathlib.Core.Path.{◌≡◌}
-use Prim.Native.Nat.{◌-◌, ◌*◌, ◌≤◌}
+use Prim.Native.Nat.{◌*◌, ◌≤◌}
 use lib.ListN.{length}
 use Rattle.layout.specs.Places.{read_start}
 use Rattle.reads.proofs.PlacesNoted.{Upto}
 use Rattle.reads.proofs.places.Given as goal
 
--- `places` meets its contract. The reads passed are noted, and the next one stands at `at`.
+-- The reads passed are noted, and the next one stands at `at`.
 abbrev pub invariant-loop-r : goal.invariant-loop-r
-invariant-loop-r l = (l.r ≤ l.shape.n) × (l.at ≡ read_start l.reads l.r) × (l.at ≤ 65537 * l.r) × (length l.places ≡ length l.initial.places) × Upto l.shape l.reads l.places l.r
-
-abbrev pub decreases-loop-r : goal.decreases-loop-r
-decreases-loop-r l = l.shape.n - l.r
+invariant-loop-r l = (l.at ≡ read_start l.bytes l.r) × (l.at ≤ 65537 * l.r) × (length l.places ≡ length l.initial.places) × Upto l.shape l.bytes l.places l.r

@@ -1,4 +1,5 @@
-use Rattle.std.proofs.Common.{◌≡◌, ℕ, ◌+◌, List, length, sym, ap, subst, ◌∙◌, arith}
+use Rattle.std.proofs.Common.{◌≡◌, ℕ, ◌+◌, ◌-◌, List, length, drop, sym, ap, subst, ◌∙◌, arith}
+use Rattle.meaning.proofs.Bounds.{Bytes, bytes_take, bytes_drop}
 use Rattle.std.proofs.lemmas.Result.{err_from_is_err_and}
 use Rattle.meaning.specs.Block.{after_reads, reads_part}
 use Rattle.meaning.specs.Refusals.{Numbers, passed, reads_fault}
@@ -38,13 +39,13 @@ returns-then-end-bytes-clause-result_value c =
     some_left b s (sym h.result_value) h.header_sizes (found s b _ (part_is b) f.result_value) _ (ends s.n _ b _ (part_is b) f.search_end)
     (omega (arith, ap length (part_is b)))
 
-pub invariant_of-result : goal.invariant_of-result
-invariant_of-result c =
+pub invariant_of-result-clause-lawful : goal.invariant_of-result-clause-lawful
+invariant_of-result-clause-lawful c =
     let b = c.args.block.now in
     let s = c.in_ok-shape.shape in
     let h = c.in_ok-shape.ensures in
     let f = c.in_ok-end.ensures in
-    record { lawful = subst (Lawful s) (sym (part_is b)) (reads_lawful b s (sym h.result_value) h.header_sizes (found s b _ (part_is b) f.result_value)) }
+    subst (Lawful s) (sym (part_is b)) (reads_lawful b s (sym h.result_value) h.header_sizes (found s b _ (part_is b) f.result_value))
 
 pub returns : goal.returns
 returns c =
@@ -63,3 +64,9 @@ returns c =
         formed = ap (λ (y : Numbers). y.number) (sym passes);
       };
     }
+
+pub invariant_of-result-clause-fit : goal.invariant_of-result-clause-fit
+invariant_of-result-clause-fit c =
+    let b = c.args.block.now in
+    let bytes : Bytes b = λ i. let h = (c.type_inv.block i).fits in omega arith in
+    bytes_take (drop 9 b) (length b - 9) (bytes_drop b 9 bytes)

@@ -5,16 +5,15 @@ use mathlib.Core.List.{List, [], ◌∷◌, ◌++◌}
 use native.Mathlib.Numerals.{add-one}
 use native.Mathlib.Nat.{zero-add, add-zero}
 use native.Mathlib.Omega.{arith}
-use lib.ListN.{length, get_or, take, drop, set, length-take, length-drop, take-append-drop}
-use lib.Seq.{drop-drop}
-use Rattle.meaning.specs.Numbers.{run, word, big_endian, bytes_of}
-use Rattle.meaning.specs.Block.{Cell, cell_count, cells_part, cell_at, read_of}
+use lib.ListN.{length, get_or, take, drop, set, take-append-drop}
+use Rattle.meaning.specs.Numbers.{run, big_endian, bytes_of}
+use Rattle.meaning.specs.Block.{Cell, cell_at}
 use Rattle.meaning.specs.Call.{laid}
 use Rattle.meaning.specs.Convert.{cells_bytes, read_bytes}
 use Rattle.meaning.proofs.Lists.{length_run, run_more}
 use Rattle.meaning.proofs.Rooms.{laid_join, set-laid}
 use Rattle.meaning.proofs.Written.{length-cells}
-use Rattle.layout.proofs.Fields.{length_field_lem, first_field_lem}
+use Rattle.layout.specs.Places.{read_from}
 use Rattle.convert.specs.Walked.{head_bytes}
 
 -- nothing
@@ -58,52 +57,21 @@ module _ (size : ℕ) (cells : List ℕ) where
       ∙ ap cells_bytes (run_more 0 i cell ∙ ap (λ (k : ℕ). run 0 i cell ++ (cell k ∷ [])) (zero-add i))
       ∙ cells_snoc (run 0 i cell) (cell i)))
 
--- The read at `at`, of which the length field says `len`: its cells, as they are cut off
-abbrev pub cells_from : List ℕ → ℕ → ℕ → List ℕ
-cells_from b at len = take (at + 2 + len - (at + 4)) (drop (at + 4) b)
-
--- and as its parts are laid one after the other
-abbrev pub parts_laid : ℕ → List ℕ → ℕ → List ℕ → ℕ → ℕ → ℕ → ℕ → List ℕ
-parts_laid size b at l to len c first =
-    let cells = cells_from b at len in
-    laid (to + 4) (cells_bytes (run 0 (length cells / size) (cell_at size cells))) (laid (to + 2) (bytes_of 2 first) (laid to (bytes_of 2 (2 + 3 * c)) l))
-
-module _ (size : ℕ) (b : List ℕ) (at : ℕ) (some : 2 ≤ word b at) (inside : at + (2 + word b at) ≤ length b) where
-  abbrev cells : List ℕ
-  cells = cells_from b at (word b at)
-
-  abbrev c : ℕ
-  c = (word b at - 2) / size
-
-  count_is : cell_count size (drop at b) ≡ c
-  count_is = ap (λ (l : ℕ). (l - 2) / size) (length_field_lem b at)
-
-  part_is : cells_part (drop at b) ≡ cells
-  part_is =
-      let e : word b at - 2 ≡ at + 2 + word b at - (at + 4) = omega arith in
-      ap₂ (λ (n : ℕ) (l : List ℕ). take n l) (ap (λ (l : ℕ). l - 2) (length_field_lem b at) ∙ e) (drop-drop 4 at b)
-
-  pub cells_count : c ≡ length cells / size
-  cells_count =
-      let e : length cells ≡ word b at - 2 = length-take (at + 2 + word b at - (at + 4)) (drop (at + 4) b) ∙ omega (arith, length-drop (at + 4) b) in
-      ap (λ (n : ℕ). n / size) (sym e)
-
-  bytes_are : read_bytes (read_of size (drop at b)) ≡ bytes_of 2 (2 + 3 * c) ++ (bytes_of 2 (word b (at + 2)) ++ cells_bytes (run 0 (length cells / size) (cell_at size cells)))
-  unfolding read_bytes read_of
+-- a read, by its parts that are laid one after the other
+module _ (size first c : ℕ) (part : List ℕ) (filled : length part / size ≡ c) where
+  bytes_are : read_bytes (read_from size first c part) ≡ bytes_of 2 (2 + 3 * c) ++ (bytes_of 2 first ++ cells_bytes (run 0 (length part / size) (cell_at size part)))
+  unfolding read_bytes
   bytes_are =
-      let x : List ℕ = drop at b in
-      let p : length (run 0 (cell_count size x) (cell_at size (cells_part x))) ≡ c = length_run 0 (cell_count size x) (cell_at size (cells_part x)) ∙ count_is in
-      let r : run 0 (cell_count size x) (cell_at size (cells_part x)) ≡ run 0 (length cells / size) (cell_at size cells) =
-      ap₂ (λ (n : ℕ) (l : List ℕ). run 0 n (cell_at size l)) (count_is ∙ cells_count) part_is in
-      λ i. bytes_of 2 (2 + 3 * p i) ++ (bytes_of 2 (first_field_lem b at i) ++ cells_bytes (r i))
+      ap₂ (λ (n k : ℕ). bytes_of 2 (2 + 3 * n) ++ (bytes_of 2 first ++ cells_bytes (run 0 k (cell_at size part)))) (length_run 0 c (cell_at size part)) (sym filled)
 
   pub read-laid : (l : List ℕ) (to : ℕ) → to + (4 + 3 * c) ≤ length l
-      → parts_laid size b at l to (word b at) c (word b (at + 2)) ≡ laid to (read_bytes (read_of size (drop at b))) l
+      → laid (to + 4) (cells_bytes (run 0 (length part / size) (cell_at size part))) (laid (to + 2) (bytes_of 2 first) (laid to (bytes_of 2 (2 + 3 * c)) l))
+      ≡ laid to (read_bytes (read_from size first c part)) l
   unfolding bytes_of
   read-laid l to h =
       let a : List ℕ = bytes_of 2 (2 + 3 * c) in
-      let f : List ℕ = bytes_of 2 (word b (at + 2)) in
-      let x : List ℕ = cells_bytes (run 0 (length cells / size) (cell_at size cells)) in
+      let f : List ℕ = bytes_of 2 first in
+      let x : List ℕ = cells_bytes (run 0 (length part / size) (cell_at size part)) in
       ap (laid (to + 4) x) (laid_join to a f l (omega arith))
       ∙ laid_join to (a ++ f) x l (omega arith)
       ∙ ap (λ (y : List ℕ). laid to y l) (sym bytes_are)

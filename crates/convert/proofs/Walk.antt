@@ -1,5 +1,5 @@
 -- The walks over the reads: one read as the loops meet it, and what it adds.
-use Prim.Native.Nat.{ℕ, zero, suc, ◌+◌, ◌*◌, ◌-◌, ◌/◌, ◌≤◌, ◌<◌}
+use Prim.Native.Nat.{ℕ, zero, suc, ◌+◌, ◌*◌, ◌≤◌, ◌<◌}
 use mathlib.Core.Bool.{Bool, true, false, cond}
 use mathlib.Core.List.{List, [], ◌++◌, append-nil}
 use mathlib.Core.Logic.{◌≢◌}
@@ -7,41 +7,19 @@ use mathlib.Core.Path.{◌≡◌, refl, sym, ap, ◌∙◌}
 use native.Mathlib.Numerals.{add-one}
 use native.Mathlib.Nat.{add-zero, le_of_eq}
 use native.Mathlib.Omega.{arith}
-use lib.ListN.{length, drop, length-append}
+use lib.ListN.{length, length-append}
 use lib.Dec.{ltb, eqb}
 use borrow.Author.Tests.{lt-ltb, le-ltb, eqb-true, eqb-false}
-use Rattle.meaning.specs.Numbers.{bit, word, bytes_of}
-use Rattle.meaning.specs.Block.{Read, Matrix, read_of}
+use Rattle.meaning.specs.Numbers.{bit, bytes_of}
+use Rattle.meaning.specs.Block.{Read, Matrix}
 use Rattle.meaning.specs.Active.{read}
 use Rattle.meaning.specs.Call.{laid}
 use Rattle.meaning.specs.Kept.{filled}
 use Rattle.meaning.specs.Convert.{read_bytes}
 use Rattle.meaning.proofs.Rooms.{laid_join}
 use Rattle.meaning.proofs.Written.{length-cells}
-use Rattle.layout.specs.declared.Shape.{Shape}
-use Rattle.layout.specs.Reads.{matrix_in, Lawful}
-use Rattle.layout.specs.Places.{read_start}
-use Rattle.layout.proofs.Laws.{read_start_lem, read_is}
-use Rattle.reads.proofs.PlacesNoted.{Here, here}
 use Rattle.convert.specs.Walked.{bytes_to, kept_to}
 use Rattle.convert.proofs.Parts.{laid_none}
-
--- read r of lawful reads, by the numbers that stand where it starts
-pub record This (s : Shape) (reads : List ℕ) (at r : ℕ) : Type 0 where
-  pub here : Here s reads at r
-  pub count : (word reads at - 2) / s.size ≡ length (read (matrix_in s reads) r).cells
-  pub few-cells : length (read (matrix_in s reads) r).cells ≤ 1024
-  pub is : read (matrix_in s reads) r ≡ read_of s.size (drop at reads)
-
-pub this : (s : Shape) (reads : List ℕ) → Lawful s reads → (at r : ℕ) → at ≡ read_start reads r → r < s.n → This s reads at r
-this s reads f at r e l =
-    let h : Here s reads at r = here s reads f at r e l in
-    record {
-      here = h;
-      count = omega (arith, h.end_is, h.first_is);
-      few-cells = omega (arith, h.end-small);
-      is = read_is s reads f r l ∙ ap (read_of s.size) (sym (ap (λ (k : ℕ). drop k reads) e ∙ read_start_lem reads r));
-    }
 
 length-read : (r : Read) → length (read_bytes r) ≡ 4 + 3 * length r.cells
 unfolding read_bytes bytes_of

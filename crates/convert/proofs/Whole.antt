@@ -1,11 +1,12 @@
 -- The whole block: header and reads are what is to be written, and what comes of it is the conversion.
-use Prim.Native.Nat.{ℕ, zero, suc, ◌+◌, ◌-◌, ◌≤◌, ◌<◌}
+use Prim.Native.Nat.{ℕ, zero, suc, ◌+◌, ◌≤◌, ◌<◌}
 use mathlib.Core.Bool.{Bool, true, false, cond}
 use mathlib.Core.List.{List, [], ◌∷◌, ◌++◌, append_assoc, append-nil}
+use mathlib.Core.Logic.{◌≢◌}
 use mathlib.Core.Path.{◌≡◌, refl, sym, ap, ap₂, ◌∙◌}
 use native.Mathlib.Nat.{le_of_eq}
 use native.Mathlib.Omega.{arith}
-use lib.ListN.{length, take, drop, length-append}
+use lib.ListN.{length, take, length-append}
 use lib.Seq.{take-suc, take_all}
 use lib.Dec.{ltb}
 use borrow.Author.Tests.{lt-ltb, le-ltb, ltb-true, ltb-false}
@@ -18,10 +19,12 @@ use Rattle.meaning.specs.Kept.{filled, without_empty}
 use Rattle.meaning.specs.Convert.{read_bytes, reads_bytes, block_bytes, converted, converting}
 use Rattle.meaning.proofs.Rooms.{laid_before, laid_front}
 use Rattle.meaning.proofs.Convert.{version_one, convert_refused, convert_no_room, converts}
-use Rattle.layout.specs.declared.Shape.{Shape}
-use Rattle.layout.specs.Reads.{matrix_in}
+use Rattle.refusal.specs.declared.Refusal.{Refusal}
+use Rattle.refusal.specs.Numbers.{refusal_number, refusal_second, refusal_numbers}
+use Rattle.refusal.proofs.Told.{refusal-numbered}
+use Rattle.layout.specs.declared.reads.Reads.{Reads}
+use Rattle.layout.specs.Matrices.{matrix_of}
 use Rattle.block.specs.Answers.{Passes}
-use Rattle.block.proofs.BlockChecks.{part_is}
 use Rattle.convert.specs.Walked.{bytes_to, kept_to, head_bytes}
 use Rattle.convert.specs.Outcomes.{writing}
 
@@ -107,18 +110,19 @@ writing-done new out h =
 
 module _ (b out : List ℕ) where
   -- a refusal of the block is the conversion's
-  pub refused_converting : (number second : ℕ) → record { number = number; second = second } ≡ block_refusal 1 b → 0 < number
-      → record { number = number; second = second; out = out } ≡ converting b out
-  refused_converting zero second e h = let z : ⊥ = omega arith in absurd z
-  refused_converting (suc i) second e h = sym (convert_refused b out i second (sym e))
+  pub refused_converting : (e : Refusal) → refusal_numbers e ≡ block_refusal 1 b → record { number = refusal_number e; second = refusal_second e; out = out } ≡ converting b out
+  refused_converting e = by_number (refusal_number e) (refusal_second e) (refusal-numbered e)
+    where
+      by_number : (number second : ℕ) → number ≢ 0 → record { number = number; second = second } ≡ block_refusal 1 b
+          → record { number = number; second = second; out = out } ≡ converting b out
+      by_number zero second n h = absurd (n refl)
+      by_number (suc i) second n h = sym (convert_refused b out i second (sym h))
 
   -- and what comes of the reads of a block that passes
-  pub passed-converting : (s : Shape) → version_field b ≡ 1 → Passes b s
-      → writing (block_bytes (without_empty (matrix_in s (take (length b - 9) (drop 9 b))))) out ≡ converting b out
+  pub passed-converting : (R : Reads) → version_field b ≡ 1 → Passes b R → writing (block_bytes (without_empty (matrix_of R))) out ≡ converting b out
   unfolding writing converted
-  passed-converting s v p =
-      ap (λ (r : List ℕ). writing (block_bytes (without_empty (matrix_in s r))) out) (part_is b)
-      ∙ ap (λ (M : Matrix). writing (block_bytes (without_empty M)) out) p.matrix_is
+  passed-converting R v p =
+      ap (λ (M : Matrix). writing (block_bytes (without_empty M)) out) p.matrix_is
       ∙ go (ltb (length out) (length (converted b))) refl
     where
       passes : (block_refusal 1 b).number ≡ 0

@@ -1,23 +1,19 @@
 -- What `places` has noted after some reads.
-use Prim.Native.Nat.{ℕ, ◌+◌, ◌-◌, ◌*◌, ◌/◌, ◌≤◌, ◌<◌}
+use Prim.Native.Nat.{ℕ, ◌+◌, ◌*◌, ◌<◌}
 use mathlib.Core.Bool.{Bool, true, false}
 use mathlib.Core.List.{List}
 use mathlib.Core.Logic.{◌≢◌}
 use mathlib.Core.Path.{◌≡◌, refl, sym, ap, ◌∙◌}
 use native.Mathlib.Nat.{not-suc-le-zero}
 use native.Mathlib.Omega.{arith}
-use lib.ListN.{length, get_or, drop, set, length-set, length-drop}
+use lib.ListN.{length, get_or, set, length-set}
 use lib.Dec.{eqb}
 use lib.Seq.{lt-length-set, get_or-set_same, get_or-set_other}
 use borrow.Author.Tests.{eqb-true, eqb-false}
-use Rattle.meaning.specs.Numbers.{word}
-use Rattle.meaning.specs.Block.{length_field, first_field, cell_count, after_reads}
 use Rattle.meaning.specs.Active.{read, end}
 use Rattle.layout.specs.declared.shape.Shape.{Shape}
-use Rattle.layout.specs.Reads.{matrix_in, Lawful}
-use Rattle.layout.specs.Places.{start_at, first_at, end_at, read_start, cells_start}
-use Rattle.layout.proofs.Fields.{length_field_lem, first_field_lem}
-use Rattle.layout.proofs.Laws.{Filled, read_start_lem, start_more, read-filled, read_first, read-end, read-inside}
+use Rattle.layout.specs.Reads.{matrix_in}
+use Rattle.layout.specs.Places.{start_at, first_at, end_at, cells_start}
 
 -- the first r reads are noted
 pub record Upto (s : Shape) (reads places : List ℕ) (r : ℕ) : Type 0 where
@@ -91,32 +87,3 @@ module _ (places : List ℕ) (r x y z : ℕ) (room : 3 * r + 2 < length places) 
         firsts = each (λ k. 3 * k + 1) (λ k l. omega arith) (λ k. (read (matrix_in s reads) k).first) (stored_first ∙ ey) u.firsts;
         ends = each (λ k. 3 * k + 2) (λ k l. omega arith) (λ k. end (read (matrix_in s reads) k)) (stored_end ∙ ez) u.ends;
       }
-
--- read r of lawful reads, by the numbers that stand where it starts
-pub record Here (s : Shape) (reads : List ℕ) (start r : ℕ) : Type 0 where
-  pub few : r < 1024
-  pub some : 2 ≤ word reads start
-  pub inside : start + (2 + word reads start) ≤ length reads
-  pub first_is : word reads (start + 2) ≡ (read (matrix_in s reads) r).first
-  pub end_is : word reads (start + 2) + (word reads start - 2) / s.size ≡ end (read (matrix_in s reads) r)
-  pub end-small : end (read (matrix_in s reads) r) ≤ 1024
-  pub next : start + 2 + word reads start ≡ read_start reads (r + 1)
-
-pub here : (s : Shape) (reads : List ℕ) → Lawful s reads → (start r : ℕ) → start ≡ read_start reads r → r < s.n → Here s reads start r
-here s reads f start r e l =
-    let p : List ℕ = after_reads r reads in
-    let q : drop start reads ≡ p = ap (λ (k : ℕ). drop k reads) e ∙ read_start_lem reads r in
-    let w : length_field p ≡ word reads start = ap length_field (sym q) ∙ length_field_lem reads start in
-    let v : first_field p ≡ word reads (start + 2) = ap first_field (sym q) ∙ first_field_lem reads start in
-    let c : cell_count s.size p ≡ (word reads start - 2) / s.size = ap (λ (k : ℕ). (k - 2) / s.size) w in
-    let n : length p ≡ length reads - start = ap length (sym q) ∙ length-drop start reads in
-    let h : Filled s.size p = read-filled s reads f r l in
-    record {
-      few = omega (arith, f.few-reads);
-      some = omega arith;
-      inside = omega arith;
-      first_is = sym (read_first s reads f r l ∙ v);
-      end_is = omega (arith, read-end s reads f r l);
-      end-small = omega (arith, read-inside s reads f r l, f.few-columns);
-      next = omega (arith, start_more reads r, ap (word reads) e);
-    }

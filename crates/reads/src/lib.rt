@@ -1,12 +1,13 @@
 // The reads of a block, one after the other: the checks 5, 38, 6 and 7, and where each read lies.
 #![tactic(auto)]
 
-ghost use Rattle.std.specs.Prelude.{◌≡◌, ◌+◌, ◌*◌, ◌≤◌, ◌<◌, length, drop};
+ghost use Rattle.std.specs.Prelude.{◌≡◌, ℕ, ◌+◌, ◌*◌, ◌≤◌, length, drop};
 ghost use Rattle.meaning.specs.Refusals.{reads_fault};
 ghost use Rattle.refusal.specs.Numbers.{checked_numbers};
 ghost use Rattle.layout.specs.Places.{Noted};
 ghost use Rattle.reads.specs.Search.{head_fault, HeadPlace, SearchEnd};
 ghost use Rattle.reads.specs.Cells.{faulty_cell};
+ghost use Rattle.reads.specs.Lying.{Starts, Lies};
 
 use layout::{Reads, Shape};
 use refusal::Refusal;
@@ -94,21 +95,41 @@ pub fn first_fault(shape: Shape, reads: &[u8]) -> Result<usize, Refusal>
     }
 }
 
+// A read that passes the checks, as it lies in the bytes: its first column, its number of cells, where they start, and where the next read starts.
+#[derive(Clone, Copy)]
+pub struct Lying {
+    pub first: usize,
+    pub count: usize,
+    pub start: usize,
+    pub next: usize,
+}
+
+// The read that starts at `at`.
+pub fn read_at(reads: &Reads<'_>, at: usize) -> Lying
+    requires { (r : ℕ) × Starts reads.now r at }
+    ensures { (r : ℕ) → Starts reads.now r at → Lies reads.now r result }
+{
+    let len = layout::word_at(reads.bytes, at);
+    Lying {
+        first: layout::word_at(reads.bytes, at + 2),
+        count: reads.shape.cells_in(len - 2),
+        start: at + 4,
+        next: at + 2 + len,
+    }
+}
+
 // Where each read's cells start, its first column, and the column after its last.
 pub fn places(reads: &Reads<'_>, places: &mut [u32])
     requires { 3 * reads.now.shape.n ≤ length places.old }
     ensures { Noted reads.now.shape reads.now.bytes.now places.new }
 {
-    let Reads { shape, bytes } = *reads;
     let mut at: usize = 0;
-    for r in 0..shape.n {
-        let len = layout::word_at(bytes, at);
-        let first = layout::word_at(bytes, at + 2);
-        let count = shape.cells_in(len - 2);
+    for r in 0..reads.shape.n {
+        let read = read_at(reads, at);
         let k = 3 * r;
-        places[k] = (at + 4) as u32;
-        places[k + 1] = first as u32;
-        places[k + 2] = (first + count) as u32;
-        at += 2 + len;
+        places[k] = read.start as u32;
+        places[k + 1] = read.first as u32;
+        places[k + 2] = (read.first + read.count) as u32;
+        at = read.next;
     }
 }

@@ -1,9 +1,7 @@
 -- The block's checks before the solver and the judge.
-use Prim.Native.Nat.{ℕ, ◌-◌, ◌<◌}
+use Prim.Native.Nat.{ℕ}
 use mathlib.Core.Path.{◌≡◌, sym, ap, ◌∙◌}
 use mathlib.Core.List.{List}
-use native.Mathlib.Omega.{arith}
-use lib.ListN.{length, take, drop}
 use Rattle.meaning.specs.Block.{Matrix, latest}
 use Rattle.meaning.specs.Letters.{Mode}
 use Rattle.meaning.specs.Refusals.{Numbers, block_refusal}
@@ -13,59 +11,54 @@ use Rattle.meaning.specs.Judge.{rejects, judging_on, judging}
 use Rattle.meaning.proofs.Call.{call_on_lem, call-block}
 use Rattle.meaning.proofs.MarginCall.{margin_call_on_lem, margin_call-block}
 use Rattle.meaning.proofs.Judging.{judging_on_lem, judging-block}
-use Rattle.layout.specs.declared.shape.Shape.{Shape}
-use Rattle.layout.specs.Reads.{matrix_in}
+use Rattle.std.specs.Prelude.{Err}
+use Rattle.layout.specs.declared.reads.Reads.{Reads}
+use Rattle.layout.specs.Matrices.{matrix_of}
+use Rattle.refusal.specs.declared.Refusal.{Refusal}
+use Rattle.refusal.specs.Numbers.{refusal_numbers}
+use Rattle.refusal.proofs.Told.{refusal-numbered}
 use Rattle.block.specs.Answers.{Passes}
-use Rattle.block.proofs.BlockChecks.{part_is}
+use Rattle.solve.specs.Outcomes.{result_of}
+use Rattle.margins.specs.Outcomes as with_margins
+use Rattle.verdict.specs.Verdicts.{judged_of}
 
 -- numbers other than 0
-refused_number : (x : Numbers) (n s : ℕ) → record { number = n; second = s } ≡ x → 0 < n → x.number ≡ 0 → ⊥
-refused_number x n s e l z = let q : n ≡ 0 = ap (λ (y : Numbers). y.number) e ∙ z in omega arith
+refused_number : (x : Numbers) (e : Refusal) → refusal_numbers e ≡ x → x.number ≡ 0 → ⊥
+refused_number x e h z = refusal-numbered e (ap (λ (y : Numbers). y.number) h ∙ z)
 
 -- equal results have equal parts
 pub by_parts : (r done : Result) → r ≡ done → (r.number ≡ done.number) × ((r.second ≡ done.second) × ((r.work ≡ done.work) × (r.out ≡ done.out)))
 by_parts r done e = (ap (λ (x : Result). x.number) e, (ap (λ (x : Result). x.second) e, (ap (λ (x : Result). x.work) e, ap (λ (x : Result). x.out) e)))
 
 -- a refusal of the block is the call's, and the judging's
-pub refused_call : (mode : Mode) (b work out : List ℕ) (n s : ℕ) → record { number = n; second = s } ≡ block_refusal latest b → 0 < n
-    → record { number = n; second = s; work = work; out = out } ≡ call_with mode latest b work out
+pub refused_call : (mode : Mode) (b work out : List ℕ) (e : Refusal) → refusal_numbers e ≡ block_refusal latest b
+    → result_of (Err e) work out ≡ call_with mode latest b work out
 unfolding refuses
-refused_call mode b work out n s e l =
-    ap (λ (x : Numbers). refuses x work out) e ∙ sym (call-block mode latest b work out (refused_number (block_refusal latest b) n s e l))
+refused_call mode b work out e h =
+    ap (λ (x : Numbers). refuses x work out) h ∙ sym (call-block mode latest b work out (refused_number (block_refusal latest b) e h))
 
-pub refused_margins : (b work out margins : List ℕ) (n s : ℕ) → record { number = n; second = s } ≡ block_refusal latest b → 0 < n
-    → record { number = n; second = s; work = work; out = out; margins = margins } ≡ margin_call b work out margins
+pub refused_margins : (b work out margins : List ℕ) (e : Refusal) → refusal_numbers e ≡ block_refusal latest b
+    → with_margins.result_of (Err e) work out margins ≡ margin_call b work out margins
 unfolding margin_call refuses_margins refuses
-refused_margins b work out margins n s e l =
-    ap (λ (x : Numbers). refuses_margins x work out margins) e ∙ sym (margin_call-block latest b work out margins (refused_number (block_refusal latest b) n s e l))
+refused_margins b work out margins e h =
+    ap (λ (x : Numbers). refuses_margins x work out margins) h ∙ sym (margin_call-block latest b work out margins (refused_number (block_refusal latest b) e h))
 
-pub refused_judging : (b a work : List ℕ) (n s : ℕ) → record { number = n; second = s } ≡ block_refusal latest b → 0 < n
-    → record { number = n; second = s; work = work } ≡ judging b a work
+pub refused_judging : (b a work : List ℕ) (e : Refusal) → refusal_numbers e ≡ block_refusal latest b
+    → judged_of (Err e) work ≡ judging b a work
 unfolding judging rejects
-refused_judging b a work n s e l =
-    ap (λ (x : Numbers). rejects x work) e ∙ sym (judging-block latest b a work (refused_number (block_refusal latest b) n s e l))
+refused_judging b a work e h =
+    ap (λ (x : Numbers). rejects x work) h ∙ sym (judging-block latest b a work (refused_number (block_refusal latest b) e h))
 
--- behind its nine bytes a block that passes is its reads
-module _ (b : List ℕ) (s : Shape) (p : Passes b s) where
-  abbrev pub lent : List ℕ
-  lent = take (length b - 9) (drop 9 b)
+-- a block that passes is its reads
+module _ (b : List ℕ) (r : Reads) (p : Passes b r) where
+  pub passed-call : (mode : Mode) (work out : List ℕ) → call_on mode (matrix_of r) work out ≡ call_with mode latest b work out
+  passed-call mode work out = ap (λ (M : Matrix). call_on mode M work out) p.matrix_is ∙ sym (call_on_lem mode latest b work out p.formed)
 
-  pub passed-call : (mode : Mode) (work out : List ℕ) → call_on mode (matrix_in s lent) work out ≡ call_with mode latest b work out
-  passed-call mode work out =
-      ap (λ (r : List ℕ). call_on mode (matrix_in s r) work out) (part_is b)
-      ∙ ap (λ (M : Matrix). call_on mode M work out) p.matrix_is
-      ∙ sym (call_on_lem mode latest b work out p.formed)
-
-  pub passed-margins : (work out margins : List ℕ) → margin_call_on (matrix_in s lent) work out margins ≡ margin_call b work out margins
+  pub passed-margins : (work out margins : List ℕ) → margin_call_on (matrix_of r) work out margins ≡ margin_call b work out margins
   unfolding margin_call
   passed-margins work out margins =
-      ap (λ (r : List ℕ). margin_call_on (matrix_in s r) work out margins) (part_is b)
-      ∙ ap (λ (M : Matrix). margin_call_on M work out margins) p.matrix_is
-      ∙ sym (margin_call_on_lem latest b work out margins p.formed)
+      ap (λ (M : Matrix). margin_call_on M work out margins) p.matrix_is ∙ sym (margin_call_on_lem latest b work out margins p.formed)
 
-  pub passed-judging : (a work : List ℕ) → judging_on (matrix_in s lent) a work ≡ judging b a work
+  pub passed-judging : (a work : List ℕ) → judging_on (matrix_of r) a work ≡ judging b a work
   unfolding judging
-  passed-judging a work =
-      ap (λ (r : List ℕ). judging_on (matrix_in s r) a work) (part_is b)
-      ∙ ap (λ (M : Matrix). judging_on M a work) p.matrix_is
-      ∙ sym (judging_on_lem latest b a work p.formed)
+  passed-judging a work = ap (λ (M : Matrix). judging_on M a work) p.matrix_is ∙ sym (judging_on_lem latest b a work p.formed)

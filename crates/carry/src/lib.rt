@@ -4,41 +4,24 @@
 ghost use Rattle.std.specs.Prelude.{◌≡◌, ℕ, ◌+◌, ◌*◌, ◌/◌, ◌≤◌, ◌<◌, min, length, get_or};
 ghost use Rattle.meaning.specs.Rule.{least_at};
 
-// The first row of the classes.
-fn first_row(part: &[u32], classes: usize, taken: &mut [u32])
-    requires { (classes ≤ length part.now) × (classes ≤ length taken.old) }
-    ensures { (f : ℕ) → f < classes → get_or taken.new f 0 ≡ get_or part.now f 0 }
+// Each class has the lesser of its entries in two rows.
+fn lesser(a: &[u32], b: &[u32], taken: &mut [u32])
+    requires a_len { length a.now ≡ length taken.old }
+    requires b_len { length b.now ≡ length taken.old }
+    ensures { (f : ℕ) → f < length taken.old → get_or taken.new f 0 ≡ min (get_or a.now f 0) (get_or b.now f 0) }
 {
-    let mut f: usize = 0;
-    while f < classes {
-        taken[f] = part[f];
-        f += 1;
+    for (f, x) in taken.iter_mut().enumerate() {
+        *x = a[f].min(b[f]);
     }
 }
 
-// The first two rows of the classes: each class has the lesser.
-fn first_rows(part: &[u32], classes: usize, taken: &mut [u32])
-    requires { (2 * classes ≤ length part.now) × (classes ≤ length taken.old) }
-    ensures { (f : ℕ) → f < classes → get_or taken.new f 0
-        ≡ min (get_or part.now f 0) (get_or part.now (classes + f) 0) }
+// Each class keeps the lesser of what it has and of its entry in one row more.
+fn keep_lesser(row: &[u32], taken: &mut [u32])
+    requires { length row.now ≡ length taken.old }
+    ensures { (f : ℕ) → f < length taken.old → get_or taken.new f 0 ≡ min (get_or taken.old f 0) (get_or row.now f 0) }
 {
-    let mut f: usize = 0;
-    while f < classes {
-        taken[f] = plain::least(part[f], part[classes + f]);
-        f += 1;
-    }
-}
-
-// The row that starts at `base`: each class keeps the lesser.
-fn next_row(part: &[u32], base: usize, classes: usize, taken: &mut [u32])
-    requires { (base + classes ≤ length part.now) × (classes ≤ length taken.old) }
-    ensures { (f : ℕ) → f < classes → get_or taken.new f 0
-        ≡ min (get_or taken.old f 0) (get_or part.now (base + f) 0) }
-{
-    let mut f: usize = 0;
-    while f < classes {
-        taken[f] = plain::least(taken[f], part[base + f]);
-        f += 1;
+    for (f, x) in taken.iter_mut().enumerate() {
+        *x = (*x).min(row[f]);
     }
 }
 
@@ -49,15 +32,16 @@ pub fn carry(part: &[u32], classes: usize, taken: &mut [u32])
     ensures { (f : ℕ) → f < classes → get_or taken.new f 0
         ≡ least_at classes (length part.now / classes) part.now f }
 {
+    let kept = &mut taken[..classes];
     if part.len() == classes {
-        first_row(part, classes, taken);
+        kept.copy_from_slice(part);
         return;
     }
-    first_rows(part, classes, taken);
-    let last = part.len() - classes;
-    let mut base = 2 * classes;
-    while base <= last {
-        next_row(part, base, classes, taken);
-        base += classes;
+    // the first two rows at once
+    let (first, others) = part.split_at(classes);
+    let (second, more) = others.split_at(classes);
+    lesser(first, second, kept);
+    for row in more.chunks_exact(classes) {
+        keep_lesser(row, kept);
     }
 }

@@ -9,7 +9,8 @@ use Rattle.meaning.specs.Block.{cell_at}
 use Rattle.meaning.specs.Active.{read, at}
 use Rattle.meaning.specs.Refusals.{bad_cell}
 use Rattle.meaning.proofs.Closing.{active-cells}
-use Rattle.layout.specs.declared.Shape.{Shape}
+use Rattle.layout.specs.declared.shape.Shape.{Shape}
+use Rattle.layout.specs.declared.reads.Placed.{Placed}
 use Rattle.layout.specs.Reads.{matrix_in}
 use Rattle.layout.specs.Places.{start_at, first_at, end_at}
 use Rattle.layout.proofs.Laws.{cell-fits}
@@ -31,19 +32,28 @@ pub taken_cell : {s : Shape} {reads : List ℕ} {r j x from to : ℕ} → Here s
     × (cell_at s.size (part s.size reads x from to) k ≡ at (read (matrix_in s reads) r) j)
 taken_cell h k e = rw e (h.within, h.cell_good, h.cell-at)
 
-module _ {s : Shape} {reads places list : List ℕ} {p j : ℕ} (laid : Laid s reads places list p j) (i : ℕ) (l : i < p) where
+module _ (placed : Placed) {list : List ℕ} {p j : ℕ} (laid : Laid placed list p j) (i : ℕ) (l : i < p) where
+  abbrev s : Shape
+  s = placed.reads.shape
+
+  abbrev reads : List ℕ
+  reads = placed.reads.bytes.now
+
+  abbrev places : List ℕ
+  places = placed.places.now
+
   -- the i-th read of the list has its three numbers
   pub listed-room : 3 * get_or list i 0 + 2 < length places
-  listed-room = omega (arith, laid.each_read i l, laid.noted.room)
+  listed-room = omega (arith, laid.each_read i l, placed.noted.room)
 
   here : Here s reads (get_or list i 0) j (start_at places (get_or list i 0)) (first_at places (get_or list i 0)) (end_at places (get_or list i 0))
   here =
       let r = get_or list i 0 in
       let lt = laid.each_read i l in
-      let c = cut_noted laid.lawful laid.noted r lt in
+      let c = cut_noted placed.reads.lawful placed.noted r lt in
       let a = active-cells (read (matrix_in s reads) r) j (laid.each-active i l) in
-      let from : first_at places r ≤ j = omega (arith, laid.noted.firsts r lt, a.1) in
-      let to : j < end_at places r = omega (arith, laid.noted.ends r lt, a.2) in
+      let from : first_at places r ≤ j = omega (arith, placed.noted.firsts r lt, a.1) in
+      let to : j < end_at places r = omega (arith, placed.noted.ends r lt, a.2) in
       let below : j - first_at places r < end_at places r - first_at places r = omega arith in
       record {
         begun = from;

@@ -1,12 +1,13 @@
 -- The pass: the level taken away, and the zeros behind it.
 use Prim.Native.Nat.{ℕ, ◌+◌, ◌-◌, ◌%◌, ◌≤◌, ◌<◌}
-use borrow.Author.Tests.{ltb-true}
+use borrow.Author.Tests.{ltb-true, ltb-false}
 use lib.Bits.{bit_and, and_mask}
 use lib.Dec.{ltb}
-use lib.ListN.{length, get_or}
-use lib.Seq.{ext_get_or}
+use lib.ListN.{length, get_or, replicate, get_or-append}
+use lib.Seq.{ext_get_or, get_or-append_right}
+use Rattle.std.proofs.lemmas.List.{length-append, length-replicate, get_or-replicate}
 use mathlib.Core.Bool.{Bool, true, false, cond}
-use mathlib.Core.List.{List}
+use mathlib.Core.List.{List, ◌++◌}
 use mathlib.Core.Path.{◌≡◌, refl, sym, ap, ap₂, ◌∙◌, subst, fun_ext}
 use native.Mathlib.Nat.{le_trans, add-zero, zero-add}
 use native.Mathlib.Omega.{arith}
@@ -28,21 +29,25 @@ use Rattle.column.proofs.Moves.{sums_of_array, sum-small, everywhere-small, sums
 pub and_one : (x : ℕ) → bit_and x 1 ≡ x % 2
 and_one x = and_mask x 1
 
-pub filled : (charged : Sums → ℕ) (w : List (List ℕ)) (turn taken : List ℕ) (p n from : ℕ) (mid last : List ℕ) → from ≡ used p
-    → ((k : ℕ) → k < used p → get_or mid k 0 ≡ entry_at charged w turn taken p k)
-    → ((k : ℕ) → k < length mid → get_or last k 0 ≡ cond (ltb k from) (get_or mid k 0) 0)
-    → length mid ≡ n → length last ≡ n → last ≡ passed charged w turn taken p n
+pub filled : (charged : Sums → ℕ) (w : List (List ℕ)) (turn taken : List ℕ) (p n : ℕ) (own behind : List ℕ)
+    → ((k : ℕ) → k < used p → get_or own k 0 ≡ entry_at charged w turn taken p k)
+    → length own ≡ used p → used p ≤ n → behind ≡ replicate (n - used p) 0 → own ++ behind ≡ passed charged w turn taken p n
 unfolding passed
-filled charged w turn taken p n from mid last ef hm hl em el =
-    ext_get_or 0 last (run 0 n rule) (el ∙ sym (length_run 0 n rule))
-    (λ k l. hl k (omega arith) ∙ ap (λ (f : ℕ). cond (ltb k f) (get_or mid k 0) 0) ef ∙ go k (ltb k (used p)) refl ∙ sym (get_or-run 0 n rule k 0 (omega arith) ∙ ap rule (zero-add k)))
+filled charged w turn taken p n own behind h e inside z =
+    ext_get_or 0 (own ++ behind) (run 0 n rule) (many ∙ sym (length_run 0 n rule))
+    (λ k l. go k (omega (arith, many)) (ltb k (used p)) refl ∙ sym (get_or-run 0 n rule k 0 (omega (arith, many)) ∙ ap rule (zero-add k)))
   where
     rule : ℕ → ℕ
     rule k = cond (ltb k (used p)) (entry_at charged w turn taken p k) 0
 
-    go : (k : ℕ) (b : Bool) → ltb k (used p) ≡ b → cond b (get_or mid k 0) 0 ≡ cond b (entry_at charged w turn taken p k) 0
-    go k true t = hm k (ltb-true k (used p) t)
-    go k false t = refl
+    many : length (own ++ behind) ≡ n
+    many = rw z (simp (length-append, length-replicate) (omega arith))
+
+    go : (k : ℕ) → k < n → (b : Bool) → ltb k (used p) ≡ b → get_or (own ++ behind) k 0 ≡ cond b (entry_at charged w turn taken p k) 0
+    go k in_part true t = let l : k < used p = ltb-true k (used p) t in get_or-append own behind 0 k (omega arith) ∙ h k l
+    go k in_part false t =
+        let l : used p ≤ k = ltb-false k (used p) t in
+        get_or-append_right own behind k 0 (omega arith) ∙ ap (λ (x : List ℕ). get_or x (k - length own) 0) z ∙ get_or-replicate (n - used p) (k - length own) 0 0 (omega arith)
 
 -- an entry on raised sums is the mode's entry and the whole level
 entry-raised : (b : Bool) (w : List (List ℕ)) (turn taken : List ℕ) (p k : ℕ)
@@ -81,15 +86,14 @@ module _ (b : Bool) (w : List (List ℕ)) (p : ℕ) where
 
       -- in the all-heterozygous mode the level is added
       pub begin_raised : (r : List (List ℕ)) (level : List ℕ) → level ≡ level_at b w p → r ≡ array_of (raised (sums_of s) level)
-          → array_of (sums_of r) ≡ array_of (raised (sums_with w p (λ i. false)) (level_at b w p))
-      begin_raised r level e h =
-          ap (λ (x : List (List ℕ)). array_of (sums_of x)) h
-          ∙ ap₂ (λ (x : Sums) (o : List ℕ). array_of (raised x o)) start_sums e
+          → r ≡ array_of (raised (sums_with w p (λ i. false)) (level_at b w p))
+      begin_raised r level e h = h ∙ ap₂ (λ (x : Sums) (o : List ℕ). array_of (raised x o)) start_sums e
 
       -- in the general one nothing is
-      pub begin_own : b ≡ false → array_of (sums_of s) ≡ array_of (raised (sums_with w p (λ i. false)) (level_at b w p))
+      pub begin_own : b ≡ false → s ≡ array_of (raised (sums_with w p (λ i. false)) (level_at b w p))
       begin_own off =
-          ap array_of (start_sums ∙ fun_ext (λ t. fun_ext (λ l. sym (none t l))))
+          is
+          ∙ ap array_of (fun_ext (λ t. fun_ext (λ l. sym (none t l))))
           ∙ ap (λ (c : Bool). array_of (raised (sums_with w p (λ i. false)) (level_at c w p))) (sym off)
         where
           none : (t : Side) (l : Letter) → raised (sums_with w p (λ i. false)) (level_at false w p) t l ≡ sums_with w p (λ i. false) t l

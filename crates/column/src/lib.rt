@@ -1,7 +1,7 @@
 // One column of the table: the pass that writes its entries.
 #![tactic(auto)]
 
-ghost use Rattle.std.specs.Prelude.{◌≡◌, false, [], ◌∷◌, ℕ, ◌-◌, ◌≤◌, ◌<◌, length, get_or};
+ghost use Rattle.std.specs.Prelude.{◌≡◌, false, ℕ, ◌-◌, ◌≤◌, ◌<◌, length, get_or};
 ghost use Rattle.meaning.specs.Active.{used};
 ghost use Rattle.meaning.specs.Letters.{mode_of};
 ghost use Rattle.sums.specs.Sums.{array_of, LightPairs, sums_with};
@@ -11,55 +11,39 @@ ghost use Rattle.column.specs.Walk.{level_at};
 
 mod walk;
 
-// What the walk starts from: the four sums of index 0, side 0's first, raised by the mode's level, and the whole of that level.
+// What the walk starts from: the four sums of index 0, raised by the mode's level, and the whole of that level.
 #[derive(Clone, Copy)]
-struct Begun {
-    a: u32,
-    b: u32,
-    c: u32,
-    d: u32,
+struct Start {
+    sums: [[u32; 2]; 2],
     whole: u32,
 }
 
-fn begin(w: &[[u32; 2]; 12], p: usize, heterozygous: bool) -> Begun
+fn begin(w: &[[u32; 2]; 12], p: usize, heterozygous: bool) -> Start
     requires { (p ≤ 12) × LightPairs w.now p 65535 }
-    ensures d_value { (result.a ∷ result.b ∷ []) ∷ (result.c ∷ result.d ∷ []) ∷ []
-        ≡ array_of (raised (sums_with w.now p (λ i. false)) (level_at heterozygous w.now p)) }
+    ensures sums_value { result.sums ≡ array_of (raised (sums_with w.now p (λ i. false)) (level_at heterozygous w.now p)) }
     ensures whole_value { result.whole ≡ whole_of (level_at heterozygous w.now p) }
 {
     let s = sums::sums(w, p);
     if heterozygous {
         let level = sums::level(s);
-        let t = sums::raised(s, level);
-        return Begun {
-            a: t[0][0],
-            b: t[0][1],
-            c: t[1][0],
-            d: t[1][1],
+        return Start {
+            sums: sums::raised(s, level),
             whole: level[0] + level[1],
         };
     }
-    Begun {
-        a: s[0][0],
-        b: s[0][1],
-        c: s[1][0],
-        d: s[1][1],
-        whole: 0,
-    }
+    Start { sums: s, whole: 0 }
 }
 
-// Takes a number away from each of the first n entries.
-fn take_away(part: &mut [u32], n: usize, by: u32)
-    requires { (n ≤ length part.old) × ((k : ℕ) → k < n → by ≤ get_or part.old k 0) }
-    ensures { (k : ℕ) → k < n → get_or part.new k 0 ≡ get_or part.old k 0 - by }
+// Takes a number away from each entry.
+fn take_away(part: &mut [u32], by: u32)
+    requires { (k : ℕ) → k < length part.old → by ≤ get_or part.old k 0 }
+    ensures { (k : ℕ) → k < length part.old → get_or part.new k 0 ≡ get_or part.old k 0 - by }
 {
     if by == 0 {
         return;
     }
-    let mut k: usize = 0;
-    while k < n {
-        part[k] -= by;
-        k += 1;
+    for x in part.iter_mut() {
+        *x -= by;
     }
 }
 
@@ -75,18 +59,14 @@ fn charge_all(
 )
     requires p_bound { (p ≤ 12) × LightPairs w.now p 65535 }
     requires room { Room turn.now p taken.now }
-    requires p_in_bounds { used p ≤ length part.old }
+    requires entries_len { used p ≡ length part.old }
     ensures { (k : ℕ) → k < used p → get_or part.new k 0
         ≡ entry_at (mode_of heterozygous).charged w.now turn.now taken.now p k }
 {
-    let b = begin(w, p, heterozygous);
-    let start = [[b.a, b.b], [b.c, b.d]];
-    let c = walk::Column {
-        p: p,
-        heterozygous: heterozygous,
-    };
-    walk::pass(w, turn, c, taken, start, part);
-    take_away(part, plain::entries(p), b.whole);
+    let start = begin(w, p, heterozygous);
+    let c = walk::Column { p, heterozygous };
+    walk::pass(w, turn, c, taken, start.sums, part);
+    take_away(part, start.whole);
 }
 
 // One column's pass: all entries of its part of the work room, zeros behind those that stand for a division.
@@ -104,6 +84,7 @@ pub fn fill(
     ensures { part.new
         ≡ passed (mode_of heterozygous).charged w.now turn.now taken.now p (length part.old) }
 {
-    charge_all(w, turn, p, taken, heterozygous, part);
-    plain::clear(part, plain::entries(p));
+    let (own, behind) = part.split_at_mut(plain::entries(p));
+    charge_all(w, turn, p, taken, heterozygous, own);
+    behind.fill(0);
 }

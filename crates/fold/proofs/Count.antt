@@ -1,5 +1,6 @@
 -- How many of the first numbers pass a test, as a loop counts them.
 use Prim.Native.Nat.{ℕ, ◌+◌, ◌-◌, ◌≤◌, ◌<◌}
+use mir.Val.{bool_byte}
 use mathlib.Core.Bool.{Bool, true, false}
 use mathlib.Core.Path.{◌≡◌, refl, ap, ◌∙◌}
 use native.Mathlib.Nat.{le_of_suc-le-suc}
@@ -8,6 +9,11 @@ use native.Mathlib.Omega.{arith}
 use Rattle.meaning.specs.Numbers.{bit, sum_to}
 use Rattle.meaning.proofs.Totals.{sum_bound, sum_split}
 use Rattle.fold.specs.Turn.{shared_to}
+
+-- a test as a number, as `usize::from` gives it
+pub byte_bit : (b : Bool) → bool_byte b ≡ bit b
+byte_bit true = refl
+byte_bit false = refl
 
 pub bit_lt : (s : Bool) → bit s < 2
 bit_lt true = omega arith

@@ -1,5 +1,6 @@
 // Reads that pass the checks, and the runs that are made of them, as types: who has one of these need not check again.
 ghost use Rattle.std.specs.Prelude.{◌≡◌};
+ghost use Rattle.meaning.proofs.Bounds.{Bytes};
 ghost use Rattle.layout.specs.Reads.{Lawful};
 ghost use Rattle.layout.specs.Places.{Noted};
 ghost use Rattle.layout.specs.Ready.{Ready};
@@ -12,6 +13,7 @@ pub struct Reads<'a> {
     pub shape: Shape,
     pub bytes: &'a [u8],
     ghost lawful: { Lawful shape bytes.now },
+    ghost fit: { Bytes bytes.now },
 }
 
 // With where each read lies.

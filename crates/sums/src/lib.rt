@@ -13,20 +13,11 @@ pub fn sums(w: &[[u32; 2]; 12], p: usize) -> [[u32; 2]; 2]
 {
     let mut w0: u32 = 0;
     let mut w1: u32 = 0;
-    let mut i: usize = 0;
-    while i < p {
+    for i in 0..p {
         w0 += w[i][0];
         w1 += w[i][1];
-        i += 1;
     }
     [[w0, w1], [0, 0]]
-}
-
-// Half of what a is above b.
-fn half_above(a: u32, b: u32) -> u32
-    ensures { result ≡ (a - b) / 2 }
-{
-    if b < a { (a - b) / 2 } else { 0 }
 }
 
 // The level of the all-heterozygous mode: what is added to each sum of either letter, so that the charge below is the mode's, and the
@@ -37,7 +28,7 @@ pub fn level(s: [[u32; 2]; 2]) -> [u32; 2]
 {
     let w0 = s[0][0] + s[1][0];
     let w1 = s[0][1] + s[1][1];
-    [half_above(w1, w0), half_above(w0, w1)]
+    [w1.saturating_sub(w0) / 2, w0.saturating_sub(w1) / 2]
 }
 
 // The sums with the level added.
@@ -72,7 +63,7 @@ pub fn moved(s: [[u32; 2]; 2], w: [u32; 2], from: usize) -> [[u32; 2]; 2]
 fn lesser(side: [u32; 2]) -> u32
     ensures { result ≡ min (get_or side 0 0) (get_or side 1 0) }
 {
-    plain::least(side[0], side[1])
+    side[0].min(side[1])
 }
 
 // The charge of a column: the lesser sum of each side.

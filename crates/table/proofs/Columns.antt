@@ -19,7 +19,8 @@ use Rattle.sums.specs.Sums.{pair_at, pair_of, LightPairs}
 use Rattle.column.specs.Pass.{Room, passed}
 use Rattle.column.proofs.Join.{Paired}
 use Rattle.cells.specs.Laid.{Laid}
-use Rattle.layout.specs.declared.Shape.{Shape}
+use Rattle.layout.specs.declared.shape.Shape.{Shape}
+use Rattle.layout.specs.declared.reads.Placed.{Placed}
 use Rattle.layout.specs.Reads.{matrix_in}
 use Rattle.layout.specs.Places.{first_at}
 use Rattle.layout.specs.Lists.{count_at}
@@ -62,15 +63,13 @@ module _ (shape : Shape) (reads places lists : List ℕ) (ready : Ready shape re
         subst (λ (x : ℕ). active (read M x) j ≡ true) (sym (part_listed j l i m)) (listed-active shape reads places lists ready j l i m)
 
     -- what is asked to look at its cells
-    pub cells-laid : Laid shape reads places (list_part j) p j
-    cells-laid =
+    pub cells-laid : (placed : Placed) → placed.reads.shape ≡ shape → placed.reads.bytes.now ≡ reads → Laid placed (list_part j) p j
+    cells-laid placed es eb =
         record {
-          lawful = ready.lawful;
-          noted = ready.noted;
           few = list-fits.0;
           listed = list-fits.1;
-          each_read = list_read;
-          each-active = list-active;
+          each_read = λ i k. rw es (list_read i k);
+          each-active = λ i k. rw (es, eb) (list-active i k);
         }
 
   pub firsts_are : (r : ℕ) → r < count M → first_at places r ≡ (read M r).first

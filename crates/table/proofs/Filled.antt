@@ -24,7 +24,7 @@ use Rattle.meaning.proofs.Closing.{Placed}
 use Rattle.meaning.proofs.Rooms.{length-column, length-columns, column-at, columns_part, laid_join, laid_front}
 use Rattle.meaning.proofs.Rule.{rule_first, rule_next}
 use Rattle.meaning.proofs.Bounds.{Bytes, entry_bound}
-use Rattle.layout.specs.declared.Shape.{Shape}
+use Rattle.layout.specs.declared.shape.Shape.{Shape}
 use Rattle.layout.specs.Reads.{matrix_in}
 use Rattle.layout.specs.Ready.{Ready}
 use Rattle.layout.proofs.Laws.{lawful-light, ready-thin}

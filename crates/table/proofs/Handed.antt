@@ -13,7 +13,7 @@ use Rattle.meaning.specs.Active.{used, entries}
 use Rattle.meaning.specs.Closing.{active_reads, closing_at}
 use Rattle.meaning.specs.Rule.{least_at, shared_reads}
 use Rattle.meaning.proofs.Closing.{active_split}
-use Rattle.layout.specs.declared.Shape.{Shape}
+use Rattle.layout.specs.declared.shape.Shape.{Shape}
 use Rattle.layout.specs.Reads.{matrix_in}
 use Rattle.layout.specs.Lists.{count_at}
 use Rattle.layout.specs.Ready.{Ready}

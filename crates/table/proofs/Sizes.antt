@@ -15,7 +15,7 @@ use Rattle.meaning.specs.Closing.{active_reads}
 use Rattle.meaning.proofs.Lists.{has-get_or}
 use Rattle.meaning.proofs.Closing.{Placed, length-active, active_lt, active_is}
 use Rattle.meaning.proofs.Rooms.{used-room}
-use Rattle.layout.specs.declared.Shape.{Shape}
+use Rattle.layout.specs.declared.shape.Shape.{Shape}
 use Rattle.layout.specs.Reads.{matrix_in}
 use Rattle.layout.specs.Lists.{count_at}
 use Rattle.layout.specs.Ready.{Ready}

@@ -7,8 +7,7 @@ ghost use Rattle.meaning.specs.Letters.{charge_in, mode_of};
 ghost use Rattle.meaning.specs.Table.{table};
 ghost use Rattle.meaning.specs.Call.{over, laid};
 ghost use Rattle.meaning.specs.Rule.{rule_column, column_of};
-ghost use Rattle.layout.specs.Reads.{matrix_in};
-ghost use Rattle.layout.specs.Ready.{Ready};
+ghost use Rattle.layout.specs.Matrices.{matrix_of};
 ghost use Rattle.table.specs.Taken.{Handing, HandedOn};
 
 // What column j takes over: nothing at column 0, else for each index of the s reads that it shares with the column before that one's
@@ -22,7 +21,7 @@ fn take_over(lists: &[u16], j: usize, t: usize, s: usize, work: &[u32], taken: &
         return;
     }
     let i = j - 1;
-    let q = plain::index(lists[13 * i]);
+    let q = usize::from(lists[13 * i]);
     let from = i * t;
     let to = from + plain::entries(q);
     carry::carry(&work[from..to], plain::entries(s), taken);
@@ -39,34 +38,29 @@ struct Place {
 // Column j by the rule, from what the column before it holds: all its entries, written through its part of the work room. `w` and `turn` are
 // room for what its reads bring.
 fn column_by_rule(
-    shape: layout::Shape,
-    reads: &[u8],
-    places: &[u32],
-    lists: &[u16],
+    listed: &layout::Listed,
     at: Place,
     w: &mut [[u32; 2]; 12],
     turn: &mut [usize; 12],
     taken: &mut [u32],
     work: &mut [u32],
 )
-    requires ready { Ready shape reads.now places.now lists.now }
-    requires j_lt_m { (at.j < shape.m) × (at.t ≡ entries (matrix_in shape reads.now)) }
-    requires t_in_bounds { (at.t ≤ length taken.old) × (shape.m * at.t ≤ length work.old) }
-    requires k_bound { 0 < at.j → (k : ℕ) → get_or (column_of (matrix_in shape reads.now) work.old (at.j - 1)) k 0 ≤ 4000000000 }
-    requires w_len { (length w.old ≡ 12) × (length turn.old ≡ 12) }
-    ensures work_after { work.new
-        ≡ laid (at.j * at.t) (rule_column (charge_in (mode_of at.heterozygous)) (matrix_in shape reads.now) at.j
-        (column_of (matrix_in shape reads.now) work.old (at.j - 1)))
+    requires j_lt_m { (at.j < listed.now.reads.shape.m) × (at.t ≡ entries (matrix_of listed.now.reads)) }
+    requires t_in_bounds { (at.t ≤ length taken.old) × (listed.now.reads.shape.m * at.t ≤ length work.old) }
+    requires k_bound { 0 < at.j → (k : ℕ) → get_or (column_of (matrix_of listed.now.reads) work.old (at.j - 1)) k 0 ≤ 4000000000 }
+    ensures { work.new
+        ≡ laid (at.j * at.t) (rule_column (charge_in (mode_of at.heterozygous)) (matrix_of listed.now.reads) at.j
+        (column_of (matrix_of listed.now.reads) work.old (at.j - 1)))
         work.old }
-    ensures w_len_2 { (length w.new ≡ 12) × (length turn.new ≡ 12) }
 {
     let j = at.j;
     let t = at.t;
+    let lists = listed.lists;
     let a = 13 * j + 1;
     let e = a + 12;
     let list = &lists[a..e];
-    let p = plain::index(lists[13 * j]);
-    let s = cells::prepare(shape, reads, places, list, p, j, w, turn);
+    let p = usize::from(lists[13 * j]);
+    let s = cells::prepare(&listed.placed(), list, p, j, w, turn);
     take_over(lists, j, t, s, work, taken);
     let from = j * t;
     let to = from + t;
@@ -75,32 +69,20 @@ fn column_by_rule(
 
 // All columns in turn.
 pub fn fill_table(
-    shape: layout::Shape,
-    reads: &[u8],
-    places: &[u32],
-    lists: &[u16],
+    listed: &layout::Listed,
     t: usize,
     heterozygous: bool,
     taken: &mut [u32],
     work: &mut [u32],
 )
-    requires ready { Ready shape reads.now places.now lists.now }
-    requires t_value { t ≡ entries (matrix_in shape reads.now) }
-    requires t_in_bounds { (t ≤ length taken.old) × (shape.m * t ≤ length work.old) }
-    ensures { work.new ≡ over (table (charge_in (mode_of heterozygous)) (matrix_in shape reads.now)) work.old }
+    requires t_value { t ≡ entries (matrix_of listed.now.reads) }
+    requires t_in_bounds { (t ≤ length taken.old) × (listed.now.reads.shape.m * t ≤ length work.old) }
+    ensures { work.new ≡ over (table (charge_in (mode_of heterozygous)) (matrix_of listed.now.reads)) work.old }
 {
     let mut w = [[0u32; 2]; 12];
     let mut turn = [0usize; 12];
-    let mut j: usize = 0;
-    while j < shape.m {
-        let at = Place {
-            j: j,
-            t: t,
-            heterozygous: heterozygous,
-        };
-        column_by_rule(
-            shape, reads, places, lists, at, &mut w, &mut turn, taken, work,
-        );
-        j += 1;
+    for j in 0..listed.reads.shape.m {
+        let at = Place { j, t, heterozygous };
+        column_by_rule(listed, at, &mut w, &mut turn, taken, work);
     }
 }

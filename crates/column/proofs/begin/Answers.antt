@@ -11,8 +11,8 @@ use Rattle.column.proofs.begin.Goals as goal
 pub level-level-requires : goal.level-level-requires
 level-level-requires c = start_small c.args.heterozygous c.args.w.now c.args.p c.requires.0 c.requires.1 _ c.sums-s.ensures
 
-pub raised-t-requires : goal.raised-t-requires
-raised-t-requires c =
+pub raised-requires : goal.raised-requires
+raised-requires c =
     -- the level that is found is the column's
     let level : let a = c.args in c.level-level.result ≡ level_at a.heterozygous a.w.now a.p = level_is c.args.heterozygous c.args.w.now c.args.p c.requires.0 c.requires.1 _ c.sums-s.ensures c.if-heterozygous.true _ c.level-level.ensures in
     raised-small c.args.heterozygous c.args.w.now c.args.p c.requires.0 c.requires.1 _ c.sums-s.ensures _ level
@@ -26,7 +26,7 @@ overflow_add-result c =
 pub returns-then-heterozygous : goal.returns-then-heterozygous
 returns-then-heterozygous c =
     let level : let a = c.args in c.level-level.result ≡ level_at a.heterozygous a.w.now a.p = level_is c.args.heterozygous c.args.w.now c.args.p c.requires.0 c.requires.1 _ c.sums-s.ensures c.if-heterozygous.true _ c.level-level.ensures in
-    record { d_value = begin_raised c.args.heterozygous c.args.w.now c.args.p c.requires.0 c.requires.1 _ c.sums-s.ensures _ _ level c.raised-t.ensures; whole_value = ap (λ (o : List ℕ). whole_of o) level }
+    record { sums_value = begin_raised c.args.heterozygous c.args.w.now c.args.p c.requires.0 c.requires.1 _ c.sums-s.ensures _ _ level c.raised.ensures; whole_value = ap (λ (o : List ℕ). whole_of o) level }
 
 pub returns : goal.returns
-returns c = record { d_value = begin_own c.args.heterozygous c.args.w.now c.args.p c.requires.0 c.requires.1 _ c.sums-s.ensures c.if-heterozygous.false; whole_value = whole_none c.args.heterozygous c.args.w.now c.args.p c.if-heterozygous.false }
+returns c = record { sums_value = begin_own c.args.heterozygous c.args.w.now c.args.p c.requires.0 c.requires.1 _ c.sums-s.ensures c.if-heterozygous.false; whole_value = whole_none c.args.heterozygous c.args.w.now c.args.p c.if-heterozygous.false }

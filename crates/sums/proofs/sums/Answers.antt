@@ -9,7 +9,7 @@ use Rattle.sums.proofs.Laws.{leaf_none, leaf_more, leaf_end}
 use Rattle.sums.proofs.sums.Goals as goal
 
 pub loop-i-init : goal.loop-i-init
-loop-i-init c = (omega arith, leaf_none _, leaf_none _, omega arith, omega arith)
+loop-i-init c = (leaf_none _, leaf_none _, omega arith, omega arith)
 
 pub overflow_add-w0 : goal.overflow_add-w0
 overflow_add-w0 c =
@@ -31,11 +31,11 @@ loop-i-preserved c =
     let b = light true in
     let e = leaf_more l.i (λ j. weight_of w j false) in
     let g = leaf_more l.i (λ j. weight_of w j true) in
-    (omega arith, omega arith, omega arith, omega arith, omega arith)
+    (omega arith, omega arith, omega arith, omega arith)
 
 pub returns : goal.returns
 returns c =
     let s = c.args in
     let l = c.loop-i in
     let e : l.i ≡ s.p = omega arith in
-    leaf_end s.w.now s.p l.w0 l.w1 (subst (λ (n : ℕ). l.w0 ≡ sum_to n (λ j. weight_of s.w.now j false)) e l.invariant.1) (subst (λ (n : ℕ). l.w1 ≡ sum_to n (λ j. weight_of s.w.now j true)) e l.invariant.2)
+    leaf_end s.w.now s.p l.w0 l.w1 (subst (λ (n : ℕ). l.w0 ≡ sum_to n (λ j. weight_of s.w.now j false)) e l.invariant.0) (subst (λ (n : ℕ). l.w1 ≡ sum_to n (λ j. weight_of s.w.now j true)) e l.invariant.1)

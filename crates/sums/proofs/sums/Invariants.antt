@@ -1,4 +1,4 @@
-use Prim.Native.Nat.{◌-◌, ◌*◌, ◌≤◌}
+use Prim.Native.Nat.{◌*◌, ◌≤◌}
 use mathlib.Core.Bool.{true, false}
 use mathlib.Core.Path.{◌≡◌}
 use Rattle.meaning.specs.Numbers.{sum_to}
@@ -6,7 +6,4 @@ use Rattle.sums.specs.Sums.{weight_of}
 use Rattle.sums.proofs.sums.Given as goal
 
 abbrev pub invariant-loop-i : goal.invariant-loop-i
-invariant-loop-i l = (l.i ≤ l.p) × (l.w0 ≡ sum_to l.i (λ j. weight_of l.w j false)) × (l.w1 ≡ sum_to l.i (λ j. weight_of l.w j true)) × (l.w0 ≤ 65535 * l.i) × (l.w1 ≤ 65535 * l.i)
-
-abbrev pub decreases-loop-i : goal.decreases-loop-i
-decreases-loop-i l = l.p - l.i
+invariant-loop-i l = (l.w0 ≡ sum_to l.i (λ j. weight_of l.w j false)) × (l.w1 ≡ sum_to l.i (λ j. weight_of l.w j true)) × (l.w0 ≤ 65535 * l.i) × (l.w1 ≤ 65535 * l.i)

@@ -1,11 +1,12 @@
 use native.Mathlib.Omega.{arith}
-use Prim.Native.Nat.{ℕ, ◌*◌, ◌≤◌}
+use Prim.Native.Nat.{ℕ, ◌*◌, ◌≤◌, ◌<◌}
 use mathlib.Core.Path.{◌≡◌, ap, ◌∙◌}
 use mathlib.Core.List.{List}
 use lib.ListN.{length}
 use Rattle.meaning.specs.Letters.{charge_in, mode_of}
 use Rattle.meaning.specs.Call.{laid}
 use Rattle.layout.specs.Reads.{matrix_in}
+use Rattle.layout.specs.declared.reads.Reads.{Reads}
 use Rattle.table.specs.Taken.{shared_before, TakenBefore}
 use Rattle.table.proofs.Sizes.{ColumnSizes, column_sizes}
 use Rattle.table.proofs.Handed.{handing, handed}
@@ -16,101 +17,103 @@ use Rattle.table.proofs.column_by_rule.Goals as goal
 pub overflow_mul-a : goal.overflow_mul-a
 overflow_mul-a c =
     -- the plain numbers of column j
-    let sizes : ColumnSizes c.args.shape c.args.reads.now c.args.places.now c.args.lists.now c.requires.ready c.args.at.j c.args.at.t = column_sizes _ _ _ _ c.requires.ready c.args.at.j c.args.at.t c.requires.j_lt_m.0 c.requires.j_lt_m.1 in
+    let sizes : ColumnSizes c.args.listed.now.reads.shape c.args.listed.now.reads.bytes.now c.args.listed.now.places.now c.args.listed.now.lists.now c.args.listed.now.ready c.args.at.j c.args.at.t = column_sizes _ _ _ _ c.args.listed.now.ready c.args.at.j c.args.at.t c.requires.j_lt_m.0 c.requires.j_lt_m.1 in
     omega (arith, sizes)
 
 pub overflow_add-a : goal.overflow_add-a
 overflow_add-a c =
-    let sizes : ColumnSizes c.args.shape c.args.reads.now c.args.places.now c.args.lists.now c.requires.ready c.args.at.j c.args.at.t = column_sizes _ _ _ _ c.requires.ready c.args.at.j c.args.at.t c.requires.j_lt_m.0 c.requires.j_lt_m.1 in
+    let sizes : ColumnSizes c.args.listed.now.reads.shape c.args.listed.now.reads.bytes.now c.args.listed.now.places.now c.args.listed.now.lists.now c.args.listed.now.ready c.args.at.j c.args.at.t = column_sizes _ _ _ _ c.args.listed.now.ready c.args.at.j c.args.at.t c.requires.j_lt_m.0 c.requires.j_lt_m.1 in
     omega (arith, sizes)
 
 pub overflow_add-e : goal.overflow_add-e
 overflow_add-e c =
-    let sizes : ColumnSizes c.args.shape c.args.reads.now c.args.places.now c.args.lists.now c.requires.ready c.args.at.j c.args.at.t = column_sizes _ _ _ _ c.requires.ready c.args.at.j c.args.at.t c.requires.j_lt_m.0 c.requires.j_lt_m.1 in
+    let sizes : ColumnSizes c.args.listed.now.reads.shape c.args.listed.now.reads.bytes.now c.args.listed.now.places.now c.args.listed.now.lists.now c.args.listed.now.ready c.args.at.j c.args.at.t = column_sizes _ _ _ _ c.args.listed.now.ready c.args.at.j c.args.at.t c.requires.j_lt_m.0 c.requires.j_lt_m.1 in
     omega (arith, sizes)
 
 pub offset_bounds-lists-a : goal.offset_bounds-lists-a
 offset_bounds-lists-a c =
-    let sizes : ColumnSizes c.args.shape c.args.reads.now c.args.places.now c.args.lists.now c.requires.ready c.args.at.j c.args.at.t = column_sizes _ _ _ _ c.requires.ready c.args.at.j c.args.at.t c.requires.j_lt_m.0 c.requires.j_lt_m.1 in
+    let sizes : ColumnSizes c.args.listed.now.reads.shape c.args.listed.now.reads.bytes.now c.args.listed.now.places.now c.args.listed.now.lists.now c.args.listed.now.ready c.args.at.j c.args.at.t = column_sizes _ _ _ _ c.args.listed.now.ready c.args.at.j c.args.at.t c.requires.j_lt_m.0 c.requires.j_lt_m.1 in
     omega (arith, sizes)
 
 pub slice_bounds-list-end : goal.slice_bounds-list-end
 slice_bounds-list-end c =
-    let sizes : ColumnSizes c.args.shape c.args.reads.now c.args.places.now c.args.lists.now c.requires.ready c.args.at.j c.args.at.t = column_sizes _ _ _ _ c.requires.ready c.args.at.j c.args.at.t c.requires.j_lt_m.0 c.requires.j_lt_m.1 in
+    let sizes : ColumnSizes c.args.listed.now.reads.shape c.args.listed.now.reads.bytes.now c.args.listed.now.places.now c.args.listed.now.lists.now c.args.listed.now.ready c.args.at.j c.args.at.t = column_sizes _ _ _ _ c.args.listed.now.ready c.args.at.j c.args.at.t c.requires.j_lt_m.0 c.requires.j_lt_m.1 in
     omega (arith, sizes)
 
 pub overflow_mul-j : goal.overflow_mul-j
 overflow_mul-j c =
-    let sizes : ColumnSizes c.args.shape c.args.reads.now c.args.places.now c.args.lists.now c.requires.ready c.args.at.j c.args.at.t = column_sizes _ _ _ _ c.requires.ready c.args.at.j c.args.at.t c.requires.j_lt_m.0 c.requires.j_lt_m.1 in
+    let sizes : ColumnSizes c.args.listed.now.reads.shape c.args.listed.now.reads.bytes.now c.args.listed.now.places.now c.args.listed.now.lists.now c.args.listed.now.ready c.args.at.j c.args.at.t = column_sizes _ _ _ _ c.args.listed.now.ready c.args.at.j c.args.at.t c.requires.j_lt_m.0 c.requires.j_lt_m.1 in
     omega (arith, sizes)
 
 pub offset_bounds-lists-j : goal.offset_bounds-lists-j
 offset_bounds-lists-j c =
-    let sizes : ColumnSizes c.args.shape c.args.reads.now c.args.places.now c.args.lists.now c.requires.ready c.args.at.j c.args.at.t = column_sizes _ _ _ _ c.requires.ready c.args.at.j c.args.at.t c.requires.j_lt_m.0 c.requires.j_lt_m.1 in
+    let sizes : ColumnSizes c.args.listed.now.reads.shape c.args.listed.now.reads.bytes.now c.args.listed.now.places.now c.args.listed.now.lists.now c.args.listed.now.ready c.args.at.j c.args.at.t = column_sizes _ _ _ _ c.args.listed.now.ready c.args.at.j c.args.at.t c.requires.j_lt_m.0 c.requires.j_lt_m.1 in
     omega (arith, sizes)
 
 pub bounds-lists-j : goal.bounds-lists-j
 bounds-lists-j c =
-    let sizes : ColumnSizes c.args.shape c.args.reads.now c.args.places.now c.args.lists.now c.requires.ready c.args.at.j c.args.at.t = column_sizes _ _ _ _ c.requires.ready c.args.at.j c.args.at.t c.requires.j_lt_m.0 c.requires.j_lt_m.1 in
+    let sizes : ColumnSizes c.args.listed.now.reads.shape c.args.listed.now.reads.bytes.now c.args.listed.now.places.now c.args.listed.now.lists.now c.args.listed.now.ready c.args.at.j c.args.at.t = column_sizes _ _ _ _ c.args.listed.now.ready c.args.at.j c.args.at.t c.requires.j_lt_m.0 c.requires.j_lt_m.1 in
     omega (arith, sizes)
 
 pub prepare-s-requires : goal.prepare-s-requires
-prepare-s-requires c = record { laid = cells-laid _ _ _ _ c.requires.ready c.args.at.j c.requires.j_lt_m.0 c.index-p.result c.index-p.ensures.0; w_len = (c.requires.w_len.0, c.requires.w_len.1) }
+prepare-s-requires c =
+    cells-laid _ _ _ _ c.args.listed.now.ready c.args.at.j c.requires.j_lt_m.0 c.from-p.result c.from-p.ensures
+    c.placed.result (ap (λ (r : Reads). r.shape) c.placed.ensures.0) (ap (λ (r : Reads). r.bytes.now) c.placed.ensures.0)
 
 pub take_over-requires : goal.take_over-requires
 take_over-requires c =
     -- how many reads are shared
-    let shared : c.prepare-s.result ≡ length (shared_before (matrix_in c.args.shape c.args.reads.now) c.args.at.j) = let w = c.index-p in
-    shared_are _ _ _ _ c.requires.ready c.args.at.j c.requires.j_lt_m.0 w.result w.ensures.0 c.prepare-s.result c.prepare-s.ensures.value in
-    handing _ _ _ _ c.requires.ready c.args.at.j c.args.at.t c.prepare-s.result c.requires.j_lt_m.0 c.requires.j_lt_m.1 shared c.args.work.now c.args.taken.now
+    let shared : c.prepare-s.result ≡ length (shared_before (matrix_in c.args.listed.now.reads.shape c.args.listed.now.reads.bytes.now) c.args.at.j) = let w = c.from-p in
+    shared_are _ _ _ _ c.args.listed.now.ready c.args.at.j c.requires.j_lt_m.0 w.result w.ensures c.prepare-s.result (rw c.placed.ensures.1 at c.prepare-s.ensures.value) in
+    handing _ _ _ _ c.args.listed.now.ready c.args.at.j c.args.at.t c.prepare-s.result c.requires.j_lt_m.0 c.requires.j_lt_m.1 shared c.args.work.now c.args.taken.now
     c.requires.t_in_bounds.0 c.requires.t_in_bounds.1
 
 pub overflow_mul-from : goal.overflow_mul-from
 overflow_mul-from c =
-    let sizes : ColumnSizes c.args.shape c.args.reads.now c.args.places.now c.args.lists.now c.requires.ready c.args.at.j c.args.at.t = column_sizes _ _ _ _ c.requires.ready c.args.at.j c.args.at.t c.requires.j_lt_m.0 c.requires.j_lt_m.1 in
+    let sizes : ColumnSizes c.args.listed.now.reads.shape c.args.listed.now.reads.bytes.now c.args.listed.now.places.now c.args.listed.now.lists.now c.args.listed.now.ready c.args.at.j c.args.at.t = column_sizes _ _ _ _ c.args.listed.now.ready c.args.at.j c.args.at.t c.requires.j_lt_m.0 c.requires.j_lt_m.1 in
     omega (arith, sizes)
 
 pub overflow_add-to : goal.overflow_add-to
 overflow_add-to c =
-    let sizes : ColumnSizes c.args.shape c.args.reads.now c.args.places.now c.args.lists.now c.requires.ready c.args.at.j c.args.at.t = column_sizes _ _ _ _ c.requires.ready c.args.at.j c.args.at.t c.requires.j_lt_m.0 c.requires.j_lt_m.1 in
+    let sizes : ColumnSizes c.args.listed.now.reads.shape c.args.listed.now.reads.bytes.now c.args.listed.now.places.now c.args.listed.now.lists.now c.args.listed.now.ready c.args.at.j c.args.at.t = column_sizes _ _ _ _ c.args.listed.now.ready c.args.at.j c.args.at.t c.requires.j_lt_m.0 c.requires.j_lt_m.1 in
     omega (arith, sizes)
 
 pub offset_bounds-work-from : goal.offset_bounds-work-from
 offset_bounds-work-from c =
-    let sizes : ColumnSizes c.args.shape c.args.reads.now c.args.places.now c.args.lists.now c.requires.ready c.args.at.j c.args.at.t = column_sizes _ _ _ _ c.requires.ready c.args.at.j c.args.at.t c.requires.j_lt_m.0 c.requires.j_lt_m.1 in
+    let sizes : ColumnSizes c.args.listed.now.reads.shape c.args.listed.now.reads.bytes.now c.args.listed.now.places.now c.args.listed.now.lists.now c.args.listed.now.ready c.args.at.j c.args.at.t = column_sizes _ _ _ _ c.args.listed.now.ready c.args.at.j c.args.at.t c.requires.j_lt_m.0 c.requires.j_lt_m.1 in
     omega (arith, sizes)
 
 pub slice_bounds-fill-end : goal.slice_bounds-fill-end
 slice_bounds-fill-end c =
-    let sizes : ColumnSizes c.args.shape c.args.reads.now c.args.places.now c.args.lists.now c.requires.ready c.args.at.j c.args.at.t = column_sizes _ _ _ _ c.requires.ready c.args.at.j c.args.at.t c.requires.j_lt_m.0 c.requires.j_lt_m.1 in
+    let sizes : ColumnSizes c.args.listed.now.reads.shape c.args.listed.now.reads.bytes.now c.args.listed.now.places.now c.args.listed.now.lists.now c.args.listed.now.ready c.args.at.j c.args.at.t = column_sizes _ _ _ _ c.args.listed.now.ready c.args.at.j c.args.at.t c.requires.j_lt_m.0 c.requires.j_lt_m.1 in
     omega (arith, sizes, c.requires.t_in_bounds.1)
 
 pub fill-requires : goal.fill-requires
 fill-requires c =
-    let shared : c.prepare-s.result ≡ length (shared_before (matrix_in c.args.shape c.args.reads.now) c.args.at.j) = let w = c.index-p in
-    shared_are _ _ _ _ c.requires.ready c.args.at.j c.requires.j_lt_m.0 w.result w.ensures.0 c.prepare-s.result c.prepare-s.ensures.value in
+    let shared : c.prepare-s.result ≡ length (shared_before (matrix_in c.args.listed.now.reads.shape c.args.listed.now.reads.bytes.now) c.args.at.j) = let w = c.from-p in
+    shared_are _ _ _ _ c.args.listed.now.ready c.args.at.j c.requires.j_lt_m.0 w.result w.ensures c.prepare-s.result (rw c.placed.ensures.1 at c.prepare-s.ensures.value) in
     -- what is taken over
-    let taken : TakenBefore (matrix_in c.args.shape c.args.reads.now) c.args.at.j c.args.work.now c.take_over.new.taken = handed _ _ _ _ c.requires.ready c.args.at.j c.args.at.t c.prepare-s.result c.requires.j_lt_m.0 c.requires.j_lt_m.1 shared c.args.work.now _ c.take_over.ensures in
-    let w = c.index-p in
+    let taken : TakenBefore (matrix_in c.args.listed.now.reads.shape c.args.listed.now.reads.bytes.now) c.args.at.j c.args.work.now c.take_over.new.taken = handed _ _ _ _ c.args.listed.now.ready c.args.at.j c.args.at.t c.prepare-s.result c.requires.j_lt_m.0 c.requires.j_lt_m.1 shared c.args.work.now _ c.take_over.ensures in
+    let w = c.from-p in
     let g = c.prepare-s in
     let k : length c.take_over.new.taken ≡ length c.args.taken.now = c.take_over.auto.taken in
     let r : c.args.at.t ≤ length c.args.taken.now = c.requires.t_in_bounds.0 in
-    let fits = fill_fits _ _ _ _ c.requires.ready c.args.at.j c.requires.j_lt_m.0 w.result w.ensures.0 g.new.turn g.ensures.by_index_2 c.args.at.t c.requires.j_lt_m.1
+    let turned = λ (i : ℕ) (k : i < c.from-p.result). rw c.placed.ensures.1 at (c.prepare-s.ensures.by_index_2 i k) in
+    let fits = fill_fits _ _ _ _ c.args.listed.now.ready c.args.at.j c.requires.j_lt_m.0 w.result w.ensures g.new.turn turned c.args.at.t c.requires.j_lt_m.1
     g.new.w c.take_over.new.taken c.args.work.now c.requires.t_in_bounds.1 g.ensures.light_pairs
-    (before_fits _ _ _ _ c.requires.ready c.args.at.j c.args.at.t c.requires.j_lt_m.0 c.requires.j_lt_m.1 c.args.work.now c.take_over.new.taken (omega arith) taken c.requires.k_bound) in
+    (before_fits _ _ _ _ c.args.listed.now.ready c.args.at.j c.args.at.t c.requires.j_lt_m.0 c.requires.j_lt_m.1 c.args.work.now c.take_over.new.taken (omega arith) taken c.requires.k_bound) in
     record { p_bound = fits.0; room = fits.1.0; p_in_bounds = fits.1.1 }
 
 pub returns : goal.returns
 returns c =
-    let shared : c.prepare-s.result ≡ length (shared_before (matrix_in c.args.shape c.args.reads.now) c.args.at.j) = let w = c.index-p in
-    shared_are _ _ _ _ c.requires.ready c.args.at.j c.requires.j_lt_m.0 w.result w.ensures.0 c.prepare-s.result c.prepare-s.ensures.value in
-    let taken : TakenBefore (matrix_in c.args.shape c.args.reads.now) c.args.at.j c.args.work.now c.take_over.new.taken = handed _ _ _ _ c.requires.ready c.args.at.j c.args.at.t c.prepare-s.result c.requires.j_lt_m.0 c.requires.j_lt_m.1 shared c.args.work.now _ c.take_over.ensures in
-    let w = c.index-p in
+    let shared : c.prepare-s.result ≡ length (shared_before (matrix_in c.args.listed.now.reads.shape c.args.listed.now.reads.bytes.now) c.args.at.j) = let w = c.from-p in
+    shared_are _ _ _ _ c.args.listed.now.ready c.args.at.j c.requires.j_lt_m.0 w.result w.ensures c.prepare-s.result (rw c.placed.ensures.1 at c.prepare-s.ensures.value) in
+    let taken : TakenBefore (matrix_in c.args.listed.now.reads.shape c.args.listed.now.reads.bytes.now) c.args.at.j c.args.work.now c.take_over.new.taken = handed _ _ _ _ c.args.listed.now.ready c.args.at.j c.args.at.t c.prepare-s.result c.requires.j_lt_m.0 c.requires.j_lt_m.1 shared c.args.work.now _ c.take_over.ensures in
+    let w = c.from-p in
     let g = c.prepare-s in
-    let f = c.fill in record {
-      work_after = pass_laid _ _ _ _ c.requires.ready c.args.at.j c.requires.j_lt_m.0 w.result w.ensures.0 (mode_of c.args.at.heterozygous).charged c.args.at.t c.requires.j_lt_m.1 g.new.w g.new.turn
-          c.take_over.new.taken c.args.work.now f.new.part c.requires.t_in_bounds.1 g.ensures.by_index g.ensures.by_index_2 f.ensures
-          ∙ ap (λ (x : List ℕ). laid (c.args.at.j * c.args.at.t) x c.args.work.now)
-          (before_over (charge_in (mode_of c.args.at.heterozygous)) (matrix_in c.args.shape c.args.reads.now) c.args.at.j c.args.work.now c.take_over.new.taken taken);
-      w_len_2 = g.ensures.w_len_2;
-    }
+    let turned = λ (i : ℕ) (k : i < c.from-p.result). rw c.placed.ensures.1 at (c.prepare-s.ensures.by_index_2 i k) in
+    let pairs = λ (i : ℕ) (k : i < c.from-p.result). rw c.placed.ensures.0 at (c.prepare-s.ensures.by_index i k) in
+    pass_laid _ _ _ _ c.args.listed.now.ready c.args.at.j c.requires.j_lt_m.0 w.result w.ensures (mode_of c.args.at.heterozygous).charged c.args.at.t c.requires.j_lt_m.1 g.new.w g.new.turn
+    c.take_over.new.taken c.args.work.now c.fill.new.part c.requires.t_in_bounds.1 pairs turned c.fill.ensures
+    ∙ ap (λ (x : List ℕ). laid (c.args.at.j * c.args.at.t) x c.args.work.now)
+    (before_over (charge_in (mode_of c.args.at.heterozygous)) (matrix_in c.args.listed.now.reads.shape c.args.listed.now.reads.bytes.now) c.args.at.j c.args.work.now c.take_over.new.taken taken)

@@ -70,27 +70,27 @@ overflow_mul-from c =
 pub entries-requires : goal.entries-requires
 entries-requires c =
     let before : let a = c.args in Before a.lists.now a.j a.t a.s a.work.now = before_column c.requires c.if-j-eq0.false in
-    omega (arith, c.index-q.ensures.0, before)
+    omega (arith, c.from-q.ensures, before)
 
 pub overflow_add-to : goal.overflow_add-to
 overflow_add-to c =
     let before : let a = c.args in Before a.lists.now a.j a.t a.s a.work.now = before_column c.requires c.if-j-eq0.false in
     -- what entries gives fits the table
-    let indexed : used c.index-q.result ≤ c.args.t = subst (λ (x : ℕ). used x ≤ c.args.t) (sym c.index-q.ensures.0) before.fits in
+    let indexed : used c.from-q.result ≤ c.args.t = subst (λ (x : ℕ). used x ≤ c.args.t) (sym c.from-q.ensures) before.fits in
     let used-fits : c.entries.result ≤ c.args.t = subst (λ (x : ℕ). x ≤ c.args.t) (sym c.entries.ensures) indexed in
     omega (arith, before, used-fits)
 
 pub offset_bounds-work-from : goal.offset_bounds-work-from
 offset_bounds-work-from c =
     let before : let a = c.args in Before a.lists.now a.j a.t a.s a.work.now = before_column c.requires c.if-j-eq0.false in
-    let indexed : used c.index-q.result ≤ c.args.t = subst (λ (x : ℕ). used x ≤ c.args.t) (sym c.index-q.ensures.0) before.fits in
+    let indexed : used c.from-q.result ≤ c.args.t = subst (λ (x : ℕ). used x ≤ c.args.t) (sym c.from-q.ensures) before.fits in
     let used-fits : c.entries.result ≤ c.args.t = subst (λ (x : ℕ). x ≤ c.args.t) (sym c.entries.ensures) indexed in
     omega (arith, before, used-fits)
 
 pub slice_bounds-carry-end : goal.slice_bounds-carry-end
 slice_bounds-carry-end c =
     let before : let a = c.args in Before a.lists.now a.j a.t a.s a.work.now = before_column c.requires c.if-j-eq0.false in
-    let indexed : used c.index-q.result ≤ c.args.t = subst (λ (x : ℕ). used x ≤ c.args.t) (sym c.index-q.ensures.0) before.fits in
+    let indexed : used c.from-q.result ≤ c.args.t = subst (λ (x : ℕ). used x ≤ c.args.t) (sym c.from-q.ensures) before.fits in
     let used-fits : c.entries.result ≤ c.args.t = subst (λ (x : ℕ). x ≤ c.args.t) (sym c.entries.ensures) indexed in
     omega (arith, before, used-fits)
 
@@ -102,19 +102,19 @@ entries-requires-2 c =
 pub carry-requires : goal.carry-requires
 carry-requires c =
     let before : let a = c.args in Before a.lists.now a.j a.t a.s a.work.now = before_column c.requires c.if-j-eq0.false in
-    let indexed : used c.index-q.result ≤ c.args.t = subst (λ (x : ℕ). used x ≤ c.args.t) (sym c.index-q.ensures.0) before.fits in
+    let indexed : used c.from-q.result ≤ c.args.t = subst (λ (x : ℕ). used x ≤ c.args.t) (sym c.from-q.ensures) before.fits in
     let b = before in
-    let fits = carry_fits (c.args.j - 1) c.args.t c.args.work.now b.written c.index-q.result c.entries.result c.args.s c.entries-2.result
-    c.entries.ensures c.entries-2.ensures (le_trans b.shared (le_of_eq (sym c.index-q.ensures.0))) indexed c.args.taken.now c.requires.room in
+    let fits = carry_fits (c.args.j - 1) c.args.t c.args.work.now b.written c.from-q.result c.entries.result c.args.s c.entries-2.result
+    c.entries.ensures c.entries-2.ensures (le_trans b.shared (le_of_eq (sym c.from-q.ensures))) indexed c.args.taken.now c.requires.room in
     record { classes_nonzero = fits.0; part_nonzero = fits.1 }
 
 pub returns : goal.returns
 returns c =
     let before : let a = c.args in Before a.lists.now a.j a.t a.s a.work.now = before_column c.requires c.if-j-eq0.false in
-    let indexed : used c.index-q.result ≤ c.args.t = subst (λ (x : ℕ). used x ≤ c.args.t) (sym c.index-q.ensures.0) before.fits in
+    let indexed : used c.from-q.result ≤ c.args.t = subst (λ (x : ℕ). used x ≤ c.args.t) (sym c.from-q.ensures) before.fits in
     let b = before in
-    let q = c.index-q.ensures.0 in
+    let q = c.from-q.ensures in
     handed_next _ c.args.j c.args.t c.args.s _ _ c.if-j-eq0.false
-    (λ g l. handed_on (c.args.j - 1) c.args.t c.args.work.now b.written c.index-q.result c.entries.result c.args.s c.entries-2.result
+    (λ g l. handed_on (c.args.j - 1) c.args.t c.args.work.now b.written c.from-q.result c.entries.result c.args.s c.entries-2.result
     c.entries.ensures c.entries-2.ensures (le_trans b.shared (le_of_eq (sym q))) indexed c.carry.new.taken c.carry.ensures g l
     ∙ ap (λ (x : ℕ). least_at (used c.args.s) (used x / used c.args.s) (take c.args.t (drop ((c.args.j - 1) * c.args.t) c.args.work.now)) g) q)

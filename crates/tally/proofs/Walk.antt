@@ -1,5 +1,5 @@
 -- The loop over the reads: one read more.
-use Prim.Native.Nat.{ℕ, zero, suc, ◌+◌, ◌-◌, ◌*◌, ◌≤◌, ◌<◌}
+use Prim.Native.Nat.{ℕ, zero, suc, ◌+◌, ◌*◌, ◌≤◌, ◌<◌}
 use lib.Dec.{eqb}
 use lib.ListN.{length, get_or, replicate}
 use mathlib.Core.Bool.{Bool, true, false, cond, beq}
@@ -7,7 +7,6 @@ use mathlib.Core.List.{List}
 use mathlib.Core.Path.{◌≡◌, refl, sym, ap, ap₂, ◌∙◌, subst}
 use native.Mathlib.Numerals.{add-one}
 use native.Mathlib.Omega.{arith}
-use Rattle.std.proofs.Common.{Bor, Fits, w8}
 use Rattle.meaning.specs.Numbers.{bit, sum_to}
 use Rattle.meaning.specs.Block.{Read, Matrix}
 use Rattle.meaning.specs.Active.{count, read, at}
@@ -15,16 +14,15 @@ use Rattle.meaning.specs.Division.{Side, Division}
 use Rattle.meaning.specs.Charge.{Letter}
 use Rattle.meaning.specs.Answer.{division_of}
 use Rattle.meaning.proofs.Totals.{sum_bound}
-use Rattle.meaning.proofs.Bounds.{Light, Bytes}
+use Rattle.meaning.proofs.Bounds.{Light}
 use Rattle.meaning.proofs.Formed.{length-reads}
-use Rattle.layout.specs.Reads.{matrix_in}
 use Rattle.layout.specs.Matrices.{matrix_of}
 use Rattle.layout.specs.declared.reads.Placed.{Placed}
 use Rattle.layout.specs.declared.reads.Reads.{Reads}
-use Rattle.layout.specs.Places.{start_at, first_at, end_at, read_from}
+use Rattle.layout.specs.Places.{start_at, first_at, end_at}
 use Rattle.layout.specs.Lists.{Thin}
 use Rattle.layout.proofs.Laws.{lawful-light}
-use Rattle.layout.proofs.Cuts.{Cut, part, cut_noted}
+use Rattle.layout.proofs.Cuts.{Cut, cut_noted}
 use Rattle.tally.specs.Tally.{unit, tally_of, tallied_to, place, Tallied, ReadAdded}
 
 -- zeros all through
@@ -33,22 +31,14 @@ zeros zero k = refl
 zeros (suc n) zero = refl
 zeros (suc n) (suc k) = zeros n k
 
--- read r by the numbers that are read of it; `bytes` are those of the reads
-pub cut_read : (p : Placed) (bytes : Bor (List ℕ)) → bytes ≡ p.reads.bytes → (r : ℕ) → r < p.reads.shape.n
-    → (x from to : ℕ) → x ≡ start_at p.places.now r → from ≡ first_at p.places.now r → to ≡ end_at p.places.now r
-    → Cut p.reads.shape bytes.now r x from to
-cut_read p bytes same r l x from to ex ef et = rw (same, ex, ef, et) (cut_noted p.reads.lawful p.noted r l)
-
-pub cut_whole : (p : Placed) (bytes : Bor (List ℕ)) → bytes ≡ p.reads.bytes → {r x from to : ℕ} → Cut p.reads.shape bytes.now r x from to
-    → read_from p.reads.shape.size from (to - from) (part p.reads.shape.size bytes.now x from to) ≡ read (matrix_of p.reads) r
-cut_whole p bytes same {r} cut = cut.whole ∙ ap (λ (b : Bor (List ℕ)). read (matrix_in p.reads.shape b.now) r) same
+-- read r by the numbers that are read of it
+pub cut_read : (p : Placed) (r : ℕ) → r < p.reads.shape.n → (x from to : ℕ)
+    → x ≡ start_at p.places.now r → from ≡ first_at p.places.now r → to ≡ end_at p.places.now r → Cut p.reads.shape p.reads.bytes.now r x from to
+cut_read p r l x from to ex ef et = rw (ex, ef, et) (cut_noted p.reads.lawful p.noted r l)
 
 -- no weight is above 65,535
-pub weights : (p : Placed) (bytes : Bor (List ℕ)) → bytes ≡ p.reads.bytes → ((i : ℕ) → Fits w8 (get_or bytes.now i 0)) → Light (matrix_of p.reads) 65535
-weights p bytes same fit = lawful-light p.reads.shape p.reads.bytes.now p.reads.lawful (rw same at small)
-  where
-    small : Bytes bytes.now
-    small i = let h = (fit i).fits in omega arith
+pub weights : (r : Reads) → Light (matrix_of r) 65535
+weights r = lawful-light r.shape r.bytes.now r.lawful r.fit
 
 -- the tally of the first r reads
 abbrev pub Upto : Matrix → Division → ℕ → List ℕ → Type 0
@@ -88,14 +78,14 @@ module _ (M : Matrix) (d : Division) where
       go false e w k = omega arith
 
 -- all reads
-pub tallied_all : (r : Reads) → Light (matrix_of r) 65535 → Thin (matrix_of r) → (sides t : List ℕ) → 4 * r.shape.m ≤ length t
+pub tallied_all : (r : Reads) → Thin (matrix_of r) → (sides t : List ℕ) → 4 * r.shape.m ≤ length t
     → (n : ℕ) → n ≡ r.shape.n → Upto (matrix_of r) (division_of sides) n t → Tallied (matrix_of r) sides t
-tallied_all r light thin sides t room n e h =
+tallied_all r thin sides t room n e h =
     let all : count (matrix_of r) ≡ r.shape.n = length-reads r.shape.size r.shape.n r.bytes.now in
     record {
       few-reads = omega (arith, all, r.lawful.few-reads);
       thin = thin;
-      light = light;
+      light = weights r;
       room = room;
       each = λ j l. subst (λ (n : ℕ). Upto (matrix_of r) (division_of sides) n t) (e ∙ sym all) h j;
     }

@@ -54,13 +54,6 @@ fn side_of(b: u8) -> usize
     usize::from(b == 1)
 }
 
-// The bytes in which the reads lie: of what a call returns it is known that each byte is below 256.
-fn bytes_of<'a>(placed: &layout::Placed<'a>) -> &'a [u8]
-    ensures { result ≡ placed.now.reads.bytes }
-{
-    placed.reads.bytes
-}
-
 // The cells of all reads, each on its side; no column has more than 12. The tally is cleared first.
 pub fn tally(placed: &layout::Placed, sides: &[u8], tally: &mut [u32])
     requires thin { Thin (matrix_of placed.now.reads) }
@@ -70,13 +63,12 @@ pub fn tally(placed: &layout::Placed, sides: &[u8], tally: &mut [u32])
 {
     tally.fill(0);
     let shape = placed.reads.shape;
-    let bytes = bytes_of(placed);
     for r in 0..shape.n {
         let s = layout::start_of(placed.places, r);
         let f = layout::first_of(placed.places, r);
         let t = layout::end_of(placed.places, r);
         let e = s + shape.size * (t - f);
-        let cells = &bytes[s..e];
+        let cells = &placed.reads.bytes[s..e];
         tally_read(shape, cells, f, t, side_of(sides[r]), tally);
     }
 }

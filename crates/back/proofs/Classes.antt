@@ -1,8 +1,7 @@
 -- Sides as digits of an index, and where the classes of a column start.
 use Prim.Native.Nat.{ℕ, zero, suc, ◌+◌, ◌-◌, ◌*◌, ◌/◌, ◌%◌, ◌^◌, ◌≤◌, ◌<◌}
-use borrow.Author.Tests.{le-leb, lt-leb}
 use lib.Bits.{bit_xor, xor_lt}
-use lib.Dec.{eqb, leb}
+use lib.Dec.{eqb}
 use lib.ListN.{length, get_or, take}
 use lib.Pow.{pow_pos, pow-add, shl_exact}
 use lib.Seq.{take-suc, length-take-le}
@@ -15,10 +14,9 @@ use native.Mathlib.Omega.{arith}
 use Rattle.meaning.specs.Numbers.{bit}
 use Rattle.meaning.specs.Active.{used}
 use Rattle.meaning.specs.Division.{Side, Division}
-use Rattle.meaning.specs.Rule.{other, folded, index_at, least_at}
+use Rattle.meaning.specs.Rule.{other, folded, index_at}
 use Rattle.meaning.proofs.Index.{index-append, index-used}
 use Rattle.fold.proofs.Count.{bit_lt}
-use Rattle.back.specs.Sides.{class_least, next_side}
 
 pub bit_one : (b : Bool) → eqb (bit b) 1 ≡ b
 bit_one true = refl
@@ -110,16 +108,3 @@ classes_whole i p n l e = (
 
     split : n ≡ 2 ^ i * 2 ^ (p - 1 - i)
     split = e ∙ ap (λ (x : ℕ). 2 ^ x) sum ∙ pow-add 2 i (p - 1 - i)
-
--- the side by the least entries of the two classes
-module _ (col : List ℕ) (low head i step f g a b : ℕ) (es : step ≡ 2 ^ i) (ef : f ≡ low + head * 2 ^ (i - 1)) (eg : g ≡ low + (1 - head) * 2 ^ (i - 1))
-    (ea : a ≡ least_at step (length col / step) col f) (eb : b ≡ least_at step (length col / step) col g) where
-  both : leb a b ≡ leb (class_least col i (low + head * 2 ^ (i - 1))) (class_least col i (low + (1 - head) * 2 ^ (i - 1)))
-  both =
-      ap₂ leb (ea ∙ ap₂ (λ (t x : ℕ). least_at t (length col / t) col x) es ef) (eb ∙ ap₂ (λ (t x : ℕ). least_at t (length col / t) col x) es eg)
-
-  pub side_zero : a ≤ b → 0 ≡ bit (next_side col low head i)
-  side_zero l = ap (λ (t : Bool). bit (not t)) (sym (le-leb a b l) ∙ both)
-
-  pub side_one : b < a → 1 ≡ bit (next_side col low head i)
-  side_one l = ap (λ (t : Bool). bit (not t)) (sym (lt-leb a b l) ∙ both)

@@ -4,7 +4,7 @@ use borrow.Author.Tests.{eqb-true, eqb-false, ne_eqb, le-leb}
 use lib.Bits.{bit_xor}
 use lib.Dec.{eqb, leb}
 use lib.ListN.{length, get_or, take, drop, set, take-append-drop}
-use lib.Seq.{drop-cons, length-take-le, drop-length, get_or-take, take-take, get_or-set_same, get_or-set_other}
+use lib.Seq.{drop-cons, length-take-le, drop-length, get_or-take, get_or-set_same, get_or-set_other}
 use mathlib.Core.Bool.{Bool, true, false, cond, not}
 use mathlib.Core.List.{List, ◌∷◌, ◌++◌}
 use mathlib.Core.Logic.{◌≢◌}
@@ -138,15 +138,6 @@ module _ (col reads : List ℕ) (s : ℕ) (before : List ℕ) where
     pub head_is : head ≡ bit (division_of sides (get_or reads 0 0))
     pub small : (r : ℕ) → get_or sides r 0 ≤ 1
     pub first : first_over (drop i reads) (entry_for reads col) (division_of sides) ≡ first_over (drop s reads) (entry_for reads col) (division_of before)
-
-  pub settling_start : (list : List ℕ) (p low head : ℕ) → reads ≡ take p list → s ≤ p → 0 < p → low ≡ index_at (take s list) (division_of before) → head ≡ bit (division_of before (get_or list 0 0))
-      → ((r : ℕ) → get_or before r 0 ≤ 1) → Settling before low head s
-  settling_start list p low head e l m el eh h = record {
-    low_is = el ∙ ap (λ (rs : List ℕ). index_at rs (division_of before)) (sym (ap (take s) e ∙ take-take s p list l));
-    head_is = eh ∙ ap (λ (r : ℕ). bit (division_of before r)) (sym (ap (λ (rs : List ℕ). get_or rs 0 0) e ∙ get_or-take p list 0 0 m));
-    small = h;
-    first = refl;
-  }
 
   pub settling_low : (sides : List ℕ) (low head i : ℕ) → i ≤ length reads → Settling sides low head i → low < used i
   settling_low sides low head i l h = subst (λ (n : ℕ). n < used i) (sym h.low_is) (index-small reads i l (division_of sides))

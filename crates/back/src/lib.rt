@@ -17,10 +17,8 @@ pub fn least_from(col: &[u32], from: usize, step: usize) -> u32
     ensures { result ≡ least_at step (length col.now / step) col.now from }
 {
     let mut lowest = col[from];
-    let mut k = from + step;
-    while k < col.len() {
-        lowest = plain::least(lowest, col[k]);
-        k += step;
+    for row in 1..col.len() / step {
+        lowest = lowest.min(col[from + row * step]);
     }
     lowest
 }
@@ -34,16 +32,13 @@ pub fn going_on(list: &[u16], p: usize, places: &[u32], j: usize) -> usize
     ensures { result ≡ sum_to p (λ i. bit (not (eqb (end_at places.now (get_or list.now i 0)) (j + 1)))) }
 {
     let after = j + 1;
-    let mut i = p;
-    while i > 0 {
-        let r = plain::index(list[i - 1]);
-        let e = layout::end_of(places, r);
-        if e != after {
+    for i in 0..p {
+        let end = layout::end_of(places, usize::from(list[i]));
+        if end == after {
             return i;
         }
-        i -= 1;
     }
-    0
+    p
 }
 
 // The side of the i-th read of the list.
@@ -52,8 +47,7 @@ fn side_of(list: &[u16], i: usize, sides: &[u8]) -> usize
     requires by_index { (r : ℕ) → get_or sides.now r 0 ≤ 1 }
     ensures { result ≡ bit (division_of sides.now (get_or list.now i 0)) }
 {
-    let r = plain::index(list[i]);
-    sides[r] as usize
+    usize::from(sides[usize::from(list[i])])
 }
 
 // An index of i reads, and the digit of the next one.
@@ -73,18 +67,16 @@ fn fixed(list: &[u16], s: usize, sides: &[u8]) -> usize
 {
     let head = side_of(list, 0, sides);
     let mut low: usize = 0;
-    let mut i: usize = 1;
-    while i < s {
+    for i in 1..s {
         let digit = side_of(list, i, sides) ^ head;
         low = class(low, digit, i);
-        i += 1;
     }
     low
 }
 
 // The side of the read after i fixed ones that has the least entry, side 0 if both have it. Its digit is its side, exchanged where the
 // first read is on side 1.
-fn first_side(col: &[u32], low: usize, head: usize, i: usize) -> usize
+fn first_side(col: &[u32], low: usize, head: usize, i: usize) -> u8
     requires i_nonzero { (0 < i) × (i < 12) × (low < used i) × (head ≤ 1) }
     requires i_value { (2 ^ i * (length col.now / 2 ^ i) ≡ length col.now) × (0 < length col.now) }
     ensures { result ≡ bit (next_side col.now low head i) }
@@ -92,7 +84,7 @@ fn first_side(col: &[u32], low: usize, head: usize, i: usize) -> usize
     let step = plain::power(i);
     let a = least_from(col, class(low, head, i), step);
     let b = least_from(col, class(low, 1 - head, i), step);
-    if a <= b { 0 } else { 1 }
+    u8::from(b < a)
 }
 
 // The reads after the first s of the list, one by one.
@@ -106,13 +98,11 @@ fn settle_from(col: &[u32], list: &[u16], p: usize, s: usize, sides: &mut [u8])
 {
     let head = side_of(list, 0, sides);
     let mut low = fixed(list, s, sides);
-    let mut i = s;
-    while i < p {
+    for i in s..p {
         let side = first_side(col, low, head, i);
-        let r = plain::index(list[i]);
-        sides[r] = side as u8;
-        low = class(low, side ^ head, i);
-        i += 1;
+        let r = usize::from(list[i]);
+        sides[r] = side;
+        low = class(low, usize::from(side) ^ head, i);
     }
 }
 
@@ -129,7 +119,7 @@ pub fn settle(col: &[u32], list: &[u16], p: usize, s: usize, sides: &mut [u8])
         return;
     }
     if s == 0 {
-        let r = plain::index(list[0]);
+        let r = usize::from(list[0]);
         sides[r] = 0;
         settle_from(col, list, p, 1, sides);
         return;

@@ -125,8 +125,3 @@ read_small a b c d false false = omega arith
 read_small a b c d false true = omega arith
 read_small a b c d true false = omega arith
 read_small a b c d true true = omega arith
-
--- a letter is 0 or 1
-pub letter-bit : (a : ℕ) (t : Bool) → a ≡ bit t → a ≤ 1
-letter-bit a true e = omega arith
-letter-bit a false e = omega arith

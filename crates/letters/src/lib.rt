@@ -52,6 +52,7 @@ fn choices(s: [[u32; 2]; 2], heterozygous: bool) -> [[u32; 2]; 2]
         let y = s[0][1] + s[1][0];
         return [[x, y], [y, x]];
     }
+    // Not `s` alone: a proof is told nothing of the length of an array that is passed by value.
     [[s[0][0], s[0][1]], [s[1][0], s[1][1]]]
 }
 
@@ -59,10 +60,11 @@ fn choices(s: [[u32; 2]; 2], heterozygous: bool) -> [[u32; 2]; 2]
 fn letter(w0: u32, w1: u32) -> u8
     ensures { result ≡ bit (not (ltb w0 w1)) }
 {
-    if w0 < w1 { 0 } else { 1 }
+    u8::from(w0 >= w1)
 }
 
 // The letters of both sides, by what they are chosen from; where the haplotypes differ the second is the other letter.
+#[tactic(auto, using(crate::proofs::Sides::letters_crossed, crate::proofs::Sides::letters_own))]
 fn letters_of(c: [[u32; 2]; 2], heterozygous: bool) -> [u8; 2]
     ensures { (w : Sums) → c ≡ array_of ((mode_of heterozygous).choice w)
         → result ≡ bit ((mode_of heterozygous).letter w false) ∷ bit ((mode_of heterozygous).letter w true) ∷ [] }
@@ -81,25 +83,19 @@ pub fn reported(w0: u32, w1: u32) -> u8
     if w0 == w1 { 2 } else { letter(w0, w1) }
 }
 
-// The margin of a side: the distance between its two sums.
-fn margin(w0: u32, w1: u32) -> u32
-    ensures { result ≡ distance w0 w1 }
-{
-    if w0 < w1 { w1 - w0 } else { w0 - w1 }
-}
-
-// The margins of both sides, by what their letters are chosen from.
+// The margins of both sides: the distance between the two sums that each letter is chosen from.
 fn margins_of(c: [[u32; 2]; 2]) -> Margins
     ensures { (result.first ≡ distance (sums_of c false false) (sums_of c false true))
         × (result.second ≡ distance (sums_of c true false) (sums_of c true true)) }
 {
     Margins {
-        first: margin(c[0][0], c[0][1]),
-        second: margin(c[1][0], c[1][1]),
+        first: c[0][0].abs_diff(c[0][1]),
+        second: c[1][0].abs_diff(c[1][1]),
     }
 }
 
 // The entries of a side that differ from its letter: those of the other letter, 0 first.
+#[tactic(auto, using(crate::proofs::Sides::against_zero, crate::proofs::Sides::against_one))]
 fn against(n: [u32; 2], letter: u8) -> u32
     ensures { (l : Letter) → letter ≡ bit l → result ≡ pair_at n l }
 {

@@ -23,7 +23,7 @@ use Rattle.meaning.proofs.Least.{first_ext}
 use Rattle.meaning.proofs.Closing.{active_split, active-cells, active_is, active_lt, ends_at, distinct_active}
 use Rattle.meaning.proofs.Index.{index-used}
 use Rattle.column.proofs.Join.{sum_places}
-use Rattle.layout.specs.declared.Shape.{Shape}
+use Rattle.layout.specs.declared.shape.Shape.{Shape}
 use Rattle.layout.specs.Reads.{matrix_in}
 use Rattle.layout.specs.Places.{end_at}
 use Rattle.layout.specs.Lists.{count_at}

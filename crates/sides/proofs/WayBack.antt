@@ -1,6 +1,6 @@
 -- The way back as a loop over the columns, and the least entry of the last column.
 use Prim.Native.Nat.{ℕ, zero, suc, ◌+◌, ◌-◌, ◌*◌, ◌/◌, ◌≤◌, ◌<◌}
-use mathlib.Core.Path.{◌≡◌, refl, sym, ap, ◌∙◌, subst, fun_ext}
+use mathlib.Core.Path.{◌≡◌, refl, sym, ap, ◌∙◌, subst}
 use mathlib.Core.List.{List}
 use native.Mathlib.Nat.{le_trans, zero-add}
 use native.Mathlib.Omega.{arith}
@@ -12,12 +12,12 @@ use Rattle.meaning.specs.Numbers.{bit, run}
 use Rattle.meaning.specs.Block.{Matrix}
 use Rattle.meaning.specs.Active.{count, used, entries}
 use Rattle.meaning.specs.Closing.{active_reads, closing_at}
-use Rattle.meaning.specs.Division.{Division, first_over, all_zero}
+use Rattle.meaning.specs.Division.{Division, first_over}
 use Rattle.meaning.specs.Answer.{sides_of, division_of}
 use Rattle.meaning.specs.Rule.{entry_for, least_at, least_entry, shared_reads, column_of, way_back}
 use Rattle.meaning.proofs.Lists.{Distinct, length_run, get_or-run}
 use Rattle.meaning.proofs.Closing.{active_split}
-use Rattle.layout.specs.declared.Shape.{Shape}
+use Rattle.layout.specs.declared.shape.Shape.{Shape}
 use Rattle.layout.specs.Reads.{matrix_in}
 use Rattle.layout.specs.Places.{end_at}
 use Rattle.layout.specs.Lists.{count_at}
@@ -42,9 +42,6 @@ bit_back (suc (suc x)) h = absurd (let w : ⊥ = omega arith in w)
 
 module _ (M : Matrix) (col : ℕ → List ℕ) where
   -- all reads on side 0
-  pub back_start : (sides : List ℕ) (m : ℕ) → ((r : ℕ) → get_or sides r 0 ≡ 0) → way_back M col m (division_of sides) ≡ way_back M col m all_zero
-  back_start sides m z = ap (way_back M col m) (fun_ext (λ r. ap (λ (x : ℕ). eqb x 1) (z r)))
-
   -- one column down
   pub back_turn : (j : ℕ) (old new : List ℕ) (whole : Division) → 0 < j
       → ((r : ℕ) → get_or new r 0 ≡ bit (first_over (closing_at M (j - 1)) (entry_for (active_reads M (j - 1)) (col (j - 1))) (division_of old) r))
@@ -105,10 +102,6 @@ module _ (shape : Shape) (reads places lists : List ℕ) (ready : Ready shape re
       part_length = entries-length shape reads places lists ready j l p q t e work room n f ∙ sym f
 
       -- the column's entries, all of one class
-      pub least_fits : ((0 < 1) × (0 < 1))
-          × ((1 * (length (take (j * t + n - j * t) (drop (j * t) work)) / 1) ≡ length (take (j * t + n - j * t) (drop (j * t) work))) × (0 < length (take (j * t + n - j * t) (drop (j * t) work))))
-      least_fits = let h = part_length in let z = some in ((omega arith, omega arith), (omega arith, omega arith))
-
       pub least_is : (x : ℕ) → x ≡ least_at 1 (length (take (j * t + n - j * t) (drop (j * t) work)) / 1) (take (j * t + n - j * t) (drop (j * t) work)) 0
           → x ≡ least_entry (active_reads M j) (column_of M work j)
       unfolding least_entry

@@ -1,40 +1,22 @@
 -- One side of a column, and the verdicts 53 and 54 column by column.
 use Prim.Native.Nat.{ℕ, ◌+◌, ◌<◌}
-use mathlib.Core.Bool.{Bool, true, false, cond, not, ◌&&◌, ◌||◌}
+use mathlib.Core.Bool.{Bool, true, false, cond, ◌||◌}
 use mathlib.Core.List.{List, []}
-use mathlib.Core.Logic.{◌≢◌}
 use mathlib.Core.Path.{◌≡◌, refl, sym, ap, ◌∙◌}
 use native.Mathlib.Omega.{arith}
 use lib.ListN.{get_or}
 use lib.Dec.{eqb}
-use borrow.Author.Tests.{eq-eqb, ne_eqb}
 use Rattle.meaning.specs.Numbers.{any_to}
 use Rattle.meaning.specs.Block.{Matrix}
 use Rattle.meaning.specs.Division.{Side}
 use Rattle.meaning.specs.Charge.{Letter, W}
 use Rattle.meaning.specs.Letters.{letter_of, tied, reported}
 use Rattle.meaning.specs.Judge.{stated_reads, stated_columns, stated_division, stated_letter, stated_haplotypes, false_dash_at, false_dash}
-use Rattle.stated.specs.declared.SideAt.{SideAt}
-use Rattle.stated.specs.declared.ColumnAt.{ColumnAt}
+use Rattle.stated.specs.declared.side.SideAt.{SideAt}
 use Rattle.sums.specs.Sums.{array_of}
-use Rattle.stated.specs.Stated.{Sized, StandsAt, Stands, dash_of, against_of, other_of, other_letter_at, other_letters}
-use Rattle.stated.proofs.Searched.{Searched, found, searched_more}
-
--- the branches on a letter
-pub letter_one : (x a b : ℕ) → x ≡ 1 → b ≡ cond (eqb x 1) b a
-letter_one x a b h = sym (simp (eq-eqb x 1 h))
-
-pub letter_zero : (x a b : ℕ) → x ≢ 1 → a ≡ cond (eqb x 1) b a
-letter_zero x a b h = sym (simp (ne_eqb x 1 h))
-
-pub no_dash : (x : ℕ) (b : Bool) → x ≢ 2 → false ≡ (eqb x 2 && b)
-no_dash x b h = sym (simp (ne_eqb x 2 h))
-
-pub a_dash : (x : ℕ) (b : Bool) → x ≡ 2 → b ≡ (eqb x 2 && b)
-a_dash x b h = sym (simp (eq-eqb x 2 h))
-
-pub other_than : (x y z : ℕ) → y ≡ z → not (eqb x y) ≡ not (eqb x z)
-other_than x y z e = ap (λ (k : ℕ). not (eqb x k)) e
+use Rattle.stated.specs.Stated.{Sized, StandsAt, Stands, dash_of, against_of, other_of, either_side, other_letter_at, other_letters}
+use Rattle.meaning.proofs.Lists.{any_at}
+use Rattle.layout.proofs.Tests.{none_more}
 
 -- what an array of the four sums and two letters say of column j
 pub stands : (M : Matrix) (a : List ℕ) (m n j : ℕ) (s : List (List ℕ)) → Sized a m n → s ≡ array_of (W M (stated_division a) j)
@@ -70,28 +52,24 @@ module _ (M : Matrix) (a : List ℕ) (j : ℕ) (s : Side) (x : SideAt) (h : Stan
       pick true = refl
       pick false = refl
 
--- a test that passes on one of the two sides of a column
-abbrev pub either_side : (ℕ → Side → Bool) → ℕ → Bool
-either_side passes j = passes j false || passes j true
+-- a search for a column where a test passes on one of the two sides
+pub none_yet : (f : ℕ → Bool) → any_to 0 f ≡ false
+unfolding any_to
+none_yet f = refl
 
--- a search for a column where it does
-module _ (M : Matrix) (a : List ℕ) (test : SideAt → Bool) (passes : ℕ → Side → Bool) (law : (j : ℕ) (s : Side) (x : SideAt) → StandsAt M a j s x → test x ≡ passes j s)
-    (m j : ℕ) (l : j < m) (c : ColumnAt) (h : Stands M a j c) (r : Bool) (first : r ≡ test c.first) where
-  first_is : r ≡ passes j false
-  first_is = first ∙ law j false c.first h.first_stands
+module _ (passes : ℕ → Side → Bool) (j : ℕ) (r : Bool) (first : r ≡ passes j false) where
+  pub found_first : (m : ℕ) → j < m → r ≡ true → true ≡ any_to m (either_side passes)
+  found_first m l e = sym (any_at m (either_side passes) j l (ap (λ (b : Bool). b || passes j true) (sym first ∙ e)))
 
-  pub found_first : r ≡ true → true ≡ any_to m (either_side passes)
-  found_first e = found m (either_side passes) j l (ap (λ (b : Bool). b || passes j true) (sym first_is ∙ e))
-
-  module _ (none : r ≡ false) (q : Bool) (second : q ≡ test c.second) where
+  module _ (none : r ≡ false) (q : Bool) (second : q ≡ passes j true) where
     both_are : q ≡ either_side passes j
-    both_are = second ∙ law j true c.second h.second_stands ∙ sym (ap (λ (b : Bool). b || passes j true) (sym first_is ∙ none))
+    both_are = second ∙ sym (ap (λ (b : Bool). b || passes j true) (sym first ∙ none))
 
-    pub found_second : q ≡ true → true ≡ any_to m (either_side passes)
-    found_second e = found m (either_side passes) j l (sym both_are ∙ e)
+    pub found_second : (m : ℕ) → j < m → q ≡ true → true ≡ any_to m (either_side passes)
+    found_second m l e = sym (any_at m (either_side passes) j l (sym both_are ∙ e))
 
-    pub found_neither : Searched m (either_side passes) j → q ≡ false → Searched m (either_side passes) (j + 1)
-    found_neither s e = searched_more m (either_side passes) j s l (sym both_are ∙ e)
+    pub found_neither : any_to j (either_side passes) ≡ false → q ≡ false → any_to (j + 1) (either_side passes) ≡ false
+    found_neither s e = none_more j (either_side passes) s (sym both_are ∙ e)
 
 -- through all columns
 module _ (M : Matrix) (a : List ℕ) where

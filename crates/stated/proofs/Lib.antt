@@ -1,4 +1,3 @@
-pub mod Searched
 pub mod Marks
 pub mod AtColumn
 pub mod Weighing

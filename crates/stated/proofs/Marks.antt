@@ -1,37 +1,24 @@
--- The verdicts 50 to 52 as the branches meet them.
+-- What the verdicts 50 to 52 leave, and searches among bytes.
 use Prim.Native.Nat.{ℕ, zero, suc, ◌+◌, ◌-◌, ◌*◌, ◌≤◌, ◌<◌}
 use mathlib.Core.Bool.{Bool, true, false, not, ◌||◌, true≢false}
 use mathlib.Core.List.{List}
-use mathlib.Core.Logic.{◌≢◌}
 use mathlib.Core.Path.{◌≡◌, refl, sym, ap, ap₂, ◌∙◌}
 use native.Mathlib.Omega.{arith}
 use lib.ListN.{length, get_or, take, drop, length-drop}
-use lib.Seq.{get_or-take, get_or-drop, length-take-le}
+use lib.Seq.{get_or-take, get_or-drop, length-take-le, ext_get_or}
 use lib.Dec.{ltb, eqb}
-use borrow.Author.Tests.{lt-ltb, le-ltb, eq-eqb, ne_eqb, eqb-true, ltb-false}
+use borrow.Author.Tests.{lt-ltb, le-ltb, eq-eqb, eqb-true, ltb-false}
 use Rattle.meaning.specs.Numbers.{any_to}
 use Rattle.meaning.specs.Judge.{stated_length, stated_reads, stated_columns, malformed, unknown_mark}
 use Rattle.meaning.proofs.Refusals.{or_false_left, or_false_right}
+use Rattle.std.proofs.Common.{MatchBool, Decides}
+use Rattle.std.specs.Cmp.Lexicographic.{pointwise}
+use Rattle.std.proofs.lemmas.Bool.Decides.{Decides-eqb}
+use Rattle.std.proofs.lemmas.Slice.Eq.{slice_eq-Decides}
+use Rattle.std.specs.List.{HoldsAt, AllWithin}
+use Rattle.meaning.proofs.Lists.{any_at}
+use Rattle.layout.proofs.Tests.{none_of, none_at}
 use Rattle.stated.specs.Stated.{Sized}
-
--- 50
-module _ (a : List ℕ) where
-  pub too_short : length a < 17 → true ≡ malformed a
-  unfolding malformed
-  too_short h = sym (simp (lt-ltb (length a) 17 h))
-
-  pub other_version_lem : 17 ≤ length a → get_or a 0 0 ≢ 2 → true ≡ malformed a
-  unfolding malformed
-  other_version_lem h v = sym (simp (le-ltb (length a) 17 h, ne_eqb (get_or a 0 0) 2 v))
-
-  module _ (h : 17 ≤ length a) (v : get_or a 0 0 ≡ 2) (said : ℕ) (s : said ≡ stated_length a) where
-    pub other_length : said ≢ length a - 5 → true ≡ malformed a
-    unfolding malformed
-    other_length d = sym (simp (le-ltb (length a) 17 h, v, ← s, ne_eqb said (length a - 5) d))
-
-    pub by_counts : said ≡ length a - 5 → (n m : ℕ) → n ≡ stated_reads a → m ≡ stated_columns a → not (eqb said (12 + n + 2 * m)) ≡ malformed a
-    unfolding malformed
-    by_counts d n m p q = sym (simp (le-ltb (length a) 17 h, v, ← s, eq-eqb said (length a - 5) d, ← p, ← q))
 
 neither : (p q : Bool) → (not p || not q) ≡ false → (p ≡ true) × (q ≡ true)
 neither true true e = (refl, refl)
@@ -56,13 +43,6 @@ same_counts a m n few-m few-n h e =
     let columns : stated_columns a ≡ m = eqb-true _ _ counts.1 in
     record { reads = reads; columns = columns; whole = omega (arith, seventeen a h); few-columns = few-m; few-reads = few-n }
 
--- 51
-pub other-reads : (w x y m n : ℕ) → w ≡ x → w ≢ n → true ≡ (not (eqb x n) || not (eqb y m))
-other-reads w x y m n e h = sym (simp (← e, ne_eqb w n h))
-
-pub same_reads : (w x y z m n : ℕ) → w ≡ x → w ≡ n → y ≡ z → not (eqb y m) ≡ (not (eqb x n) || not (eqb z m))
-same_reads w x y z m n d h e = sym (simp (← d, eq-eqb w n h, ← e))
-
 -- 52: of the bytes behind the head the first n are sides, the rest letters
 pub any_ext : (n : ℕ) (f g : ℕ → Bool) → ((i : ℕ) → i < n → f i ≡ g i) → any_to n f ≡ any_to n g
 unfolding any_to
@@ -78,6 +58,35 @@ part_any : (a : List ℕ) (k e n : ℕ) (t : ℕ → Bool) → e ≤ length a �
 part_any a k e n t l h =
     ap (λ (x : ℕ). any_to x (λ i. t (get_or (take (e - k) (drop k a)) i 0))) (part_length a k e n l h)
     ∙ any_ext n _ _ (λ i j. ap t (get_or-take (e - k) (drop k a) i 0 (omega arith) ∙ get_or-drop k a i 0))
+
+-- some byte above a limit is found, or none is
+pub above_told : (most : ℕ) (xs : List ℕ) (r : Bool) → MatchBool r ((k : ℕ) × (k < length xs) × HoldsAt (λ x. most < x) xs k) (AllWithin (λ x. x ≤ most) xs 0 (length xs))
+    → r ≡ any_to (length xs) (λ i. ltb most (get_or xs i 0))
+above_told most xs true h = sym (any_at (length xs) _ h.0 h.1 (lt-ltb _ _ (h.2 0)))
+above_told most xs false h = sym (none_of (length xs) _ (λ i l. le-ltb _ _ (h i 0 (omega arith) l)))
+
+-- two lists of one length differ at some place, or are the same
+pub equal : (x y : ℕ) → not (eqb x y) ≡ false → x ≡ y
+equal x y h = eqb-true x y (go (eqb x y) h)
+  where
+    go : (b : Bool) → not b ≡ false → b ≡ true
+    go true e = refl
+    go false e = absurd (true≢false e)
+
+pub differ_told : (xs ys : List ℕ) → length xs ≡ length ys → (r : Bool) → r ≡ not (pointwise eqb xs ys)
+    → r ≡ any_to (length xs) (λ i. not (eqb (get_or ys i 0) (get_or xs i 0)))
+differ_told xs ys l r told = told ∙ go (pointwise eqb xs ys) refl
+  where
+    same : Decides (pointwise eqb xs ys) (xs ≡ ys)
+    same = slice_eq-Decides Decides-eqb xs ys _ refl
+
+    go : (b : Bool) → pointwise eqb xs ys ≡ b → not b ≡ any_to (length xs) (λ i. not (eqb (get_or ys i 0) (get_or xs i 0)))
+    go true e = sym (none_of (length xs) _ (λ i _. ap not (eq-eqb _ _ (ap (λ (zs : List ℕ). get_or zs i 0) (sym (same.0 e))))))
+    go false e = some (any_to (length xs) (λ i. not (eqb (get_or ys i 0) (get_or xs i 0)))) refl
+      where
+        some : (b : Bool) → any_to (length xs) (λ i. not (eqb (get_or ys i 0) (get_or xs i 0))) ≡ b → true ≡ b
+        some true f = refl
+        some false f = absurd (true≢false (sym (same.1 (ext_get_or 0 xs ys l (λ i k. sym (equal _ _ (none_at (length xs) _ f i k))))) ∙ e))
 
 module _ (a : List ℕ) (m n : ℕ) (sized : Sized a m n) (above : Bool)
     (sides : above ≡ any_to (length (take (17 + n - 17) (drop 17 a))) (λ i. ltb 1 (get_or (take (17 + n - 17) (drop 17 a)) i 0))) where

@@ -1,6 +1,6 @@
 -- 56 and 57: sides compared with ours, then letters with those reported for the same sides.
 use Prim.Native.Nat.{ℕ, zero, suc, ◌+◌, ◌-◌, ◌*◌, ◌<◌}
-use mathlib.Core.Bool.{Bool, true, false, cond, not, ◌||◌, true≢false}
+use mathlib.Core.Bool.{Bool, true, false, cond, not, ◌||◌}
 use mathlib.Core.List.{List}
 use mathlib.Core.Path.{◌≡◌, refl, sym, ap, ap₂, ◌∙◌}
 use native.Mathlib.Nat.{add-zero, add-suc}
@@ -8,7 +8,6 @@ use native.Mathlib.Omega.{arith}
 use lib.ListN.{length, get_or, take, drop}
 use lib.Seq.{get_or-take, get_or-drop, ext_get_or}
 use lib.Dec.{eqb}
-use borrow.Author.Tests.{eqb-true}
 use Rattle.meaning.specs.Numbers.{bit, any_to}
 use Rattle.meaning.specs.Block.{Matrix}
 use Rattle.meaning.specs.Active.{count}
@@ -22,7 +21,7 @@ use Rattle.meaning.proofs.AnswerBytes.{answer-side, answer-letter}
 use Rattle.layout.proofs.Tests.{none_at}
 use Rattle.meaning.proofs.SidesRead.{sides_division}
 use Rattle.stated.specs.Stated.{Sized, other_letter_at, other_letters}
-use Rattle.stated.proofs.Marks.{any_ext, part_length}
+use Rattle.stated.proofs.Marks.{any_ext, part_length, equal}
 
 -- a test at some of j + k places, or on one of two sides
 any_split : (j k : ℕ) (f : ℕ → Bool) → any_to (j + k) f ≡ (any_to j f || any_to k (λ i. f (j + i)))
@@ -81,13 +80,6 @@ module _ (M : Matrix) (a : List ℕ) (m n : ℕ) (sized : Sized a m n) (columns 
     other_sides_told e = e ∙ sym (split ∙ ap (λ (b : Bool). b || any_to (2 * m) (λ i. differs (n + i))) (sym sides_told ∙ e))
 
     module _ (same : r ≡ false) where
-      equal : (x y : ℕ) → not (eqb x y) ≡ false → x ≡ y
-      equal x y h = eqb-true x y (go (eqb x y) h)
-        where
-          go : (b : Bool) → not b ≡ false → b ≡ true
-          go true e = refl
-          go false e = absurd (true≢false e)
-
       same_sides : theirs ≡ ours
       same_sides =
           let size : length theirs ≡ n = part_length a 17 (17 + n) n (omega (arith, sized.whole)) refl in

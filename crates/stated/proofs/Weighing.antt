@@ -14,7 +14,7 @@ use Rattle.meaning.proofs.Totals.{sum_ext}
 use Rattle.meaning.proofs.Sums.{column-sides}
 use Rattle.meaning.proofs.Bounds.{sums_bound}
 use Rattle.sums.proofs.Laws.{leaf_more}
-use Rattle.stated.specs.declared.ColumnAt.{ColumnAt}
+use Rattle.stated.specs.declared.side.ColumnAt.{ColumnAt}
 use Rattle.stated.specs.Stated.{StatedTally, Stands, against_of}
 use Rattle.stated.proofs.AtColumn.{against-at}
 
@@ -28,33 +28,29 @@ weight-small M a tally told j l =
     omega (arith, told.thin j l, sums_bound M 65535 told.light (stated_division a) j (stated_haplotypes a false j) (stated_haplotypes a true j))
 
 -- the columns before j are weighed
-pub record WeighedTo (M : Matrix) (a : List ℕ) (m total j : ℕ) : Type 0 where
-  pub inside : j ≤ m
+pub record WeighedTo (M : Matrix) (a : List ℕ) (total j : ℕ) : Type 0 where
   pub total_is : total ≡ sum_to j (weight_at M a)
   pub small : total ≤ j * 786420
 
-module _ (M : Matrix) (a : List ℕ) (m : ℕ) where
-  pub weighed_none : WeighedTo M a m 0 0
+module _ (M : Matrix) (a : List ℕ) where
+  pub weighed_none : WeighedTo M a 0 0
   unfolding sum_to
-  weighed_none = record { inside = zero-le; total_is = refl; small = zero-le }
+  weighed_none = record { total_is = refl; small = zero-le }
 
-  module _ (total j : ℕ) (w : WeighedTo M a m total j) (l : j < m) (c : ColumnAt) (h : Stands M a j c) (light : weight_at M a j ≤ 786420)
+  module _ (total j : ℕ) (w : WeighedTo M a total j) (c : ColumnAt) (h : Stands M a j c) (light : weight_at M a j ≤ 786420)
       (x y : ℕ) (first : x ≡ against_of c.first) (second : y ≡ against_of c.second) where
     column_is : x + y ≡ weight_at M a j
     column_is = ap₂ ◌+◌ (first ∙ against-at M a j false c.first h.first_stands) (second ∙ against-at M a j true c.second h.second_stands)
 
-    pub weighed_more : WeighedTo M a m (total + (x + y)) (j + 1)
-    weighed_more =
-        record {
-          inside = omega arith;
-          total_is = ap₂ ◌+◌ w.total_is column_is ∙ sym (leaf_more j (weight_at M a));
-          small = omega (arith, w.small, column_is);
-        }
+    pub weighed_more : WeighedTo M a (total + (x + y)) (j + 1)
+    weighed_more = record {
+      total_is = ap₂ ◌+◌ w.total_is column_is ∙ sym (leaf_more j (weight_at M a));
+      small = omega (arith, w.small, column_is);
+    }
 
-  pub weighed_all : (total j : ℕ) → WeighedTo M a m total j → m ≡ M.columns → m ≤ j → total ≡ disagreement M (stated_division a) (stated_haplotypes a)
+  pub weighed_all : (total j : ℕ) → WeighedTo M a total j → j ≡ M.columns → total ≡ disagreement M (stated_division a) (stated_haplotypes a)
   unfolding disagreement
-  weighed_all total j w e l =
-      let k : j ≡ M.columns = omega (arith, w.inside) in
+  weighed_all total j w k =
       w.total_is
       ∙ ap (λ (n : ℕ). sum_to n (weight_at M a)) k
       ∙ sum_ext M.columns (λ i _. sym (column-sides M (stated_division a) i (λ s. stated_haplotypes a s i)))

@@ -7,8 +7,8 @@ use Rattle.meaning.specs.Charge.{W}
 use Rattle.meaning.specs.Letters.{general, reported}
 use Rattle.meaning.specs.Judge.{stated_reads, stated_columns, stated_division, stated_letter}
 use Rattle.tally.specs.Tally.{Tallied}
-use Rattle.stated.specs.declared.SideAt.{SideAt}
-use Rattle.stated.specs.declared.ColumnAt.{ColumnAt}
+use Rattle.stated.specs.declared.side.SideAt.{SideAt}
+use Rattle.stated.specs.declared.side.ColumnAt.{ColumnAt}
 
 -- n and m, within their limits, are the answer's own, and its bytes are n sides and 2 × m letters behind the head
 pub record Sized (a : List ℕ) (m n : ℕ) : Type 0 where
@@ -42,9 +42,13 @@ against_of x = cond (eqb x.letter 1) x.w1 x.w0
 abbrev pub other_of : SideAt → Bool
 other_of x = not (eqb x.letter (cond (eqb x.w0 x.w1) 2 (bit (not (ltb x.w0 x.w1)))))
 
+-- a test that passes on one of the two sides of a column
+abbrev pub either_side : (ℕ → Side → Bool) → ℕ → Bool
+either_side passes j = passes j false || passes j true
+
 -- a letter that is not the one reported for the answer's own sides
 abbrev pub other_letter_at : Matrix → List ℕ → ℕ → Side → Bool
 other_letter_at M a j s = not (eqb (stated_letter a s j) (reported general (W M (stated_division a) j) s))
 
 unfoldable pub other_letters : Matrix → List ℕ → Bool
-other_letters M a = any_to M.columns (λ j. other_letter_at M a j false || other_letter_at M a j true)
+other_letters M a = any_to M.columns (either_side (other_letter_at M a))

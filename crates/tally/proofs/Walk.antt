@@ -1,11 +1,10 @@
 -- The loop over the reads: one read more.
-use Prim.Native.Nat.{ℕ, ◌+◌, ◌*◌, ◌≤◌, ◌<◌}
-use lib.Dec.{eqb, ltb}
-use lib.ListN.{length, get_or}
+use Prim.Native.Nat.{ℕ, zero, suc, ◌+◌, ◌*◌, ◌≤◌, ◌<◌}
+use lib.Dec.{eqb}
+use lib.ListN.{length, get_or, replicate}
 use mathlib.Core.Bool.{Bool, true, false, cond, beq}
 use mathlib.Core.List.{List}
-use mathlib.Core.Path.{◌≡◌, sym, ap, ap₂, ◌∙◌, subst}
-use borrow.Author.Tests.{le-ltb}
+use mathlib.Core.Path.{◌≡◌, refl, sym, ap, ap₂, ◌∙◌, subst}
 use native.Mathlib.Numerals.{add-one}
 use native.Mathlib.Omega.{arith}
 use Rattle.meaning.specs.Numbers.{bit, sum_to}
@@ -15,36 +14,40 @@ use Rattle.meaning.specs.Division.{Side, Division}
 use Rattle.meaning.specs.Charge.{Letter}
 use Rattle.meaning.specs.Answer.{division_of}
 use Rattle.meaning.proofs.Totals.{sum_bound}
-use Rattle.meaning.proofs.Bounds.{Light, Bytes}
+use Rattle.meaning.proofs.Bounds.{Light}
 use Rattle.meaning.proofs.Formed.{length-reads}
-use Rattle.layout.specs.declared.Shape.{Shape}
-use Rattle.layout.specs.Reads.{matrix_in, Lawful}
-use Rattle.layout.specs.Places.{start_at, first_at, end_at, Noted}
+use Rattle.layout.specs.Matrices.{matrix_of}
+use Rattle.layout.specs.declared.reads.Placed.{Placed}
+use Rattle.layout.specs.declared.reads.Reads.{Reads}
+use Rattle.layout.specs.Places.{start_at, first_at, end_at}
 use Rattle.layout.specs.Lists.{Thin}
 use Rattle.layout.proofs.Laws.{lawful-light}
 use Rattle.layout.proofs.Cuts.{Cut, cut_noted}
-use Rattle.plain.proofs.Laws.{all_zero_lem}
 use Rattle.tally.specs.Tally.{unit, tally_of, tallied_to, place, Tallied, ReadAdded}
 
--- what is cleared from the first entry on is zero all through
-pub cleared : (old new : List ℕ) → length new ≡ length old → ((k : ℕ) → k < length old → get_or new k 0 ≡ cond (ltb k 0) (get_or old k 0) 0)
-    → (k : ℕ) → get_or new k 0 ≡ 0
-cleared old new e h =
-    all_zero_lem new (length old) (omega (arith, e)) (λ k l. h k l ∙ ap (λ (b : Bool). cond b (get_or old k 0) 0) (le-ltb k 0 (omega arith)))
+-- zeros all through
+zeros : (n k : ℕ) → get_or (replicate {A = ℕ} n 0) k 0 ≡ 0
+zeros zero k = refl
+zeros (suc n) zero = refl
+zeros (suc n) (suc k) = zeros n k
 
 -- read r by the numbers that are read of it
-pub cut_read : {s : Shape} {reads places : List ℕ} → Lawful s reads → Noted s reads places → (r : ℕ) → r < s.n → (x from to : ℕ)
-    → x ≡ start_at places r → from ≡ first_at places r → to ≡ end_at places r → Cut s reads r x from to
-cut_read lawful noted r l x from to ex ef et = rw (ex, ef, et) (cut_noted lawful noted r l)
+pub cut_read : (p : Placed) (r : ℕ) → r < p.reads.shape.n → (x from to : ℕ)
+    → x ≡ start_at p.places.now r → from ≡ first_at p.places.now r → to ≡ end_at p.places.now r → Cut p.reads.shape p.reads.bytes.now r x from to
+cut_read p r l x from to ex ef et = rw (ex, ef, et) (cut_noted p.reads.lawful p.noted r l)
+
+-- no weight is above 65,535
+pub weights : (r : Reads) → Light (matrix_of r) 65535
+weights r = lawful-light r.shape r.bytes.now r.lawful r.fit
 
 -- the tally of the first r reads
 abbrev pub Upto : Matrix → Division → ℕ → List ℕ → Type 0
 Upto M d r t = (j : ℕ) (s : Side) (l : Letter) → get_or t (place j s l) 0 ≡ tallied_to M d r j s l
 
 module _ (M : Matrix) (d : Division) where
-  pub upto_none : (t : List ℕ) → ((k : ℕ) → get_or t k 0 ≡ 0) → Upto M d 0 t
+  pub upto_none : (n : ℕ) (t : List ℕ) → t ≡ replicate n 0 → Upto M d 0 t
   unfolding tallied_to sum_to
-  upto_none t h j s l = h (place j s l)
+  upto_none n t h j s l = rw h (zeros n (place j s l))
 
   tallied_more : (r j : ℕ) (s : Side) (l : Letter)
       → tallied_to M d (r + 1) j s l ≡ tallied_to M d r j s l + cond (beq (d r) s) (tally_of l (at (read M r) j)) 0
@@ -75,14 +78,14 @@ module _ (M : Matrix) (d : Division) where
       go false e w k = omega arith
 
 -- all reads
-pub tallied_all : (s : Shape) (reads sides t : List ℕ) → Lawful s reads → Bytes reads → Thin (matrix_in s reads) → 4 * s.m ≤ length t
-    → (r : ℕ) → r ≡ s.n → Upto (matrix_in s reads) (division_of sides) r t → Tallied (matrix_in s reads) sides t
-tallied_all s reads sides t lawful bytes thin room r e h =
-    let all : count (matrix_in s reads) ≡ s.n = length-reads s.size s.n reads in
+pub tallied_all : (r : Reads) → Thin (matrix_of r) → (sides t : List ℕ) → 4 * r.shape.m ≤ length t
+    → (n : ℕ) → n ≡ r.shape.n → Upto (matrix_of r) (division_of sides) n t → Tallied (matrix_of r) sides t
+tallied_all r thin sides t room n e h =
+    let all : count (matrix_of r) ≡ r.shape.n = length-reads r.shape.size r.shape.n r.bytes.now in
     record {
-      few-reads = omega (arith, all, lawful.few-reads);
+      few-reads = omega (arith, all, r.lawful.few-reads);
       thin = thin;
-      light = lawful-light s reads lawful bytes;
+      light = weights r;
       room = room;
-      each = λ j l. subst (λ (n : ℕ). Upto (matrix_in s reads) (division_of sides) n t) (e ∙ sym all) h j;
+      each = λ j l. subst (λ (n : ℕ). Upto (matrix_of r) (division_of sides) n t) (e ∙ sym all) h j;
     }

@@ -1,4 +1,3 @@
-use Prim.Native.Nat.{◌-◌, ◌≤◌}
 use mathlib.Core.Path.{◌≡◌}
 use lib.ListN.{get_or, take}
 use Rattle.meaning.specs.Numbers.{bit}
@@ -7,7 +6,4 @@ use Rattle.meaning.specs.Answer.{division_of}
 use Rattle.back.proofs.fixed.Given as goal
 
 abbrev pub invariant-loop-i : goal.invariant-loop-i
-invariant-loop-i l = (1 ≤ l.i) × (l.i ≤ l.s) × (l.low ≡ index_at (take l.i l.list) (division_of l.sides)) × (l.head ≡ bit (division_of l.sides (get_or l.list 0 0)))
-
-abbrev pub decreases-loop-i : goal.decreases-loop-i
-decreases-loop-i l = l.s - l.i
+invariant-loop-i l = (l.low ≡ index_at (take l.i l.list) (division_of l.sides)) × (l.head ≡ bit (division_of l.sides (get_or l.list 0 0)))

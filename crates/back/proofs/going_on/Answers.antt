@@ -1,41 +1,24 @@
+use Prim.Native.Nat.{◌+◌}
 use native.Mathlib.Omega.{arith}
-use Prim.Native.Nat.{◌+◌, ◌-◌}
-use mathlib.Core.Path.{◌≡◌, refl, sym, ap, ◌∙◌}
+use mathlib.Core.Path.{◌≡◌, sym, ap, ◌∙◌}
 use Rattle.layout.specs.Places.{end_at}
-use Rattle.fold.specs.Turn.{shared_to}
 use Rattle.fold.proofs.Count.{count_none}
-use Rattle.back.proofs.GoingOn.{goes_on, closes_more, all_go_on}
+use Rattle.back.proofs.GoingOn.{goes_on, on_more, rest_closes}
 use Rattle.back.proofs.going_on.Invariants.{ends}
 use Rattle.back.proofs.going_on.Goals as goal
 
 pub loop-i-init : goal.loop-i-init
-loop-i-init c = (omega arith, refl, refl)
+loop-i-init c = count_none (goes_on (ends c.args.list.now c.args.places.now) (c.args.j + 1))
 
-pub end_of-e-requires : goal.end_of-e-requires
-end_of-e-requires c = let l = c.loop-i in omega (arith, c.requires.by_index (l.i - 1) (omega arith), c.index-r.ensures.0)
-
-pub returns-then-e-after : goal.returns-then-e-after
-returns-then-e-after c =
-    -- what is found of the i-th read
-    let ended : let a = c.args in c.end_of-e.result ≡ ends a.list.now a.places.now (c.loop-i.i - 1) = c.end_of-e.ensures ∙ ap (end_at c.args.places.now) c.index-r.ensures.0 in
-    let l = c.loop-i in
-    let e : l.i - 1 + 1 ≡ l.i = omega arith in
-    sym
-    (l.invariant.2
-    ∙ ap (shared_to (goes_on (ends c.args.list.now c.args.places.now) (c.args.j + 1))) (sym e)
-    ∙ all_go_on (ends c.args.list.now c.args.places.now) (c.args.j + 1) c.args.p c.requires.by_index_2 (l.i - 1) (omega arith) (λ h. c.if-e-after.true (ended ∙ h ∙ sym l.invariant.1))
-    ∙ e)
+pub returns-then-end-after : goal.returns-then-end-after
+returns-then-end-after c =
+    let a = c.args in
+    let i = c.loop-i.i in
+    let closes : ends a.list.now a.places.now i ≡ a.j + 1 = sym (c.end_of-end.ensures ∙ ap (end_at a.places.now) c.from.ensures) ∙ c.if-end-after.true in
+    rest_closes (ends a.list.now a.places.now) (a.j + 1) a.p c.requires.by_index_2 i closes (omega arith) c.loop-i.invariant
 
 pub loop-i-preserved : goal.loop-i-preserved
 loop-i-preserved c =
-    let ended : let a = c.args in c.end_of-e.result ≡ ends a.list.now a.places.now (c.loop-i.i - 1) = c.end_of-e.ensures ∙ ap (end_at c.args.places.now) c.index-r.ensures.0 in
-    let s = c.args in
-    let l = c.loop-i in
-    (omega arith, l.invariant.1, l.invariant.2 ∙ closes_more (ends s.list.now s.places.now) (s.j + 1) l.i (omega arith) (sym ended ∙ c.if-e-after.false ∙ l.invariant.1))
-
-pub returns : goal.returns
-returns c =
-    let s = c.args in
-    let test = goes_on (ends s.list.now s.places.now) (s.j + 1) in
-    let e : c.loop-i.i ≡ 0 = omega arith in
-    sym (c.loop-i.invariant.2 ∙ ap (shared_to test) e ∙ count_none test)
+    let a = c.args in
+    let ended : c.end_of-end.result ≡ ends a.list.now a.places.now c.loop-i.i = c.end_of-end.ensures ∙ ap (end_at a.places.now) c.from.ensures in
+    on_more (ends a.list.now a.places.now) (a.j + 1) c.loop-i.i c.loop-i.invariant (λ e. c.if-end-after.false (ended ∙ e))

@@ -1,4 +1,4 @@
-use Prim.Native.Nat.{ℕ, ◌+◌, ◌≤◌}
+use Prim.Native.Nat.{ℕ, ◌+◌}
 use mathlib.Core.List.{List}
 use mathlib.Core.Path.{◌≡◌}
 use lib.ListN.{get_or}
@@ -11,9 +11,6 @@ use Rattle.back.proofs.going_on.Given as goal
 abbrev pub ends : List ℕ → List ℕ → ℕ → ℕ
 ends list places i = end_at places (get_or list i 0)
 
--- the reads from i on close
+-- the reads before the i-th go on
 abbrev pub invariant-loop-i : goal.invariant-loop-i
-invariant-loop-i l = (l.i ≤ l.p) × (l.after ≡ l.j + 1) × (shared_to (goes_on (ends l.list l.places) (l.j + 1)) l.p ≡ shared_to (goes_on (ends l.list l.places) (l.j + 1)) l.i)
-
-abbrev pub decreases-loop-i : goal.decreases-loop-i
-decreases-loop-i l = l.i
+invariant-loop-i l = shared_to (goes_on (ends l.list l.places) (l.j + 1)) l.i ≡ l.i

@@ -1,10 +1,9 @@
+use mathlib.Core.Path.{◌≡◌}
 use Prim.Native.Nat.{◌-◌}
-use lib.ListN.{length}
-use Rattle.back.proofs.Rows.{Seen}
+use Rattle.meaning.specs.Numbers.{min_to}
+use Rattle.back.proofs.Rows.{entry}
 use Rattle.back.proofs.least_from.Given as goal
 
-abbrev pub invariant-loop-k : goal.invariant-loop-k
-invariant-loop-k l = Seen l.col l.from l.step l.lowest l.k
-
-abbrev pub decreases-loop-k : goal.decreases-loop-k
-decreases-loop-k l = length l.col - l.k
+-- the least of the rows so far
+abbrev pub invariant-loop-row : goal.invariant-loop-row
+invariant-loop-row l = l.lowest ≡ min_to (l.row - 1) (entry l.col l.from l.step)

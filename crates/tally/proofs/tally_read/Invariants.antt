@@ -1,6 +1,5 @@
 use mathlib.Core.Path.{◌≡◌}
-use Prim.Native.Nat.{◌+◌, ◌-◌, ◌*◌, ◌≤◌}
-use lib.ListN.{length}
+use Prim.Native.Nat.{◌+◌, ◌*◌}
 use Rattle.layout.specs.Places.{read_from}
 use Rattle.sums.specs.Sums.{side_of}
 use Rattle.tally.specs.Tally.{ReadAdded}
@@ -8,8 +7,5 @@ use Rattle.tally.proofs.tally_read.Given as goal
 
 abbrev pub invariant-loop-i : goal.invariant-loop-i
 invariant-loop-i l =
-    (l.i ≤ l.c) × (l.at ≡ 4 * (l.from + l.i) + 2 * l.side) × (length l.tally ≡ length l.initial.tally)
-    × ReadAdded (read_from l.size l.from l.i l.cells) (side_of l.side) l.initial.tally l.tally
-
-abbrev pub decreases-loop-i : goal.decreases-loop-i
-decreases-loop-i l = l.c - l.i
+    (l.at ≡ 4 * (l.from + l.i) + 2 * l.side)
+    × ReadAdded (read_from l.shape.size l.from l.i l.cells) (side_of l.side) l.initial.tally l.tally

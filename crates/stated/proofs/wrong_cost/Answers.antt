@@ -1,5 +1,0 @@
-use Rattle.stated.proofs.Weighing.{cost_told}
-use Rattle.stated.proofs.wrong_cost.Goals as goal
-
-pub returns : goal.returns
-returns c = cost_told _ c.args.answer.now c.long_at.result c.weight-w.result c.long_at.ensures.0 c.weight-w.ensures

@@ -1,21 +1,23 @@
 -- From where the reads lie to the lists: the heights, check 9 and T, and that the reads are ready.
-use Prim.Native.Nat.{ℕ, zero, suc, ◌+◌, ◌-◌, ◌*◌, ◌≤◌, ◌<◌, min}
+use Prim.Native.Nat.{ℕ, ◌-◌, ◌*◌, ◌≤◌, ◌<◌, min}
 use mathlib.Core.Path.{◌≡◌, sym, ap, ◌∙◌, subst}
-use mathlib.Core.Bool.{Bool, true, false, cond}
+use mathlib.Core.Bool.{Bool, true, false}
 use mathlib.Core.List.{List}
 use native.Mathlib.Nat.{le_trans, le_of_eq, mul-le-mul}
 use native.Mathlib.Omega.{arith}
 use lib.ListN.{length}
-use lib.Dec.{ltb}
 use lib.Pow.{pow_mono}
 use Rattle.meaning.specs.Numbers.{bit, max_to}
 use Rattle.meaning.specs.Block.{Matrix}
 use Rattle.meaning.specs.Active.{count, read, active, active_count, most_active, used, entries}
 use Rattle.meaning.specs.Refusals.{Numbers, crowded}
 use Rattle.meaning.proofs.Totals.{sum_bound}
-use Rattle.meaning.proofs.Closing.{Placed, length-active}
+use Rattle.meaning.proofs.Closing.{length-active}
+use Rattle.meaning.proofs.Closing as closing
 use Rattle.layout.specs.declared.shape.Shape.{Shape}
+use Rattle.layout.specs.declared.reads.Placed.{Placed}
 use Rattle.layout.specs.Reads.{matrix_in}
+use Rattle.layout.specs.Matrices.{matrix_of}
 use Rattle.layout.specs.Places.{first_at, end_at}
 use Rattle.layout.specs.Lists.{Holds}
 use Rattle.layout.specs.Ready.{Ready}
@@ -25,17 +27,6 @@ use Rattle.pile.proofs.LawsHeights.{height_is, heights_low, crowded_is, most_is}
 use Rattle.pile.proofs.LawsClosing.{held_is}
 use Rattle.table.proofs.Sizes.{max-below}
 use Rattle.ready.specs.Piling.{Piling, ThinColumns}
-
--- a column that is found is one of those looked at
-pub crowded_lt : (height : ℕ → ℕ) (j n i : ℕ) → record { number = 9; second = i } ≡ crowded height j n → i < j + n
-unfolding crowded
-crowded_lt height j zero i e = absurd (let z : ◌≡◌ {A = ℕ} 9 0 = ap (λ (x : Numbers). x.number) e in omega arith)
-crowded_lt height j (suc n) i e = go (ltb 12 (height j)) e (crowded_lt height (suc j) n i)
-  where
-    go : (t : Bool) → record { number = 9; second = i } ≡ cond t (record { number = 9; second = j }) (crowded height (suc j) n)
-        → (record { number = 9; second = i } ≡ crowded height (suc j) n → i < suc j + n) → i < j + suc n
-    go true h ih = let q : i ≡ j = ap (λ (x : Numbers). x.second) h in omega arith
-    go false h ih = let q : i < suc j + n = ih h in omega arith
 
 -- T is no more than what so many reads take
 pub entries-room : (M : Matrix) (t n : ℕ) → count M ≡ n → ThinColumns M t → t ≤ used (min n 12)
@@ -60,7 +51,7 @@ module _ (s : Shape) (reads places lists : List ℕ) (p : Piling s reads places 
   abbrev M : Matrix
   M = matrix_in s reads
 
-  placed : Placed M
+  placed : closing.Placed M
   placed = lawful_placed s reads p.lawful
 
   -- the spans that are noted are the matrix's
@@ -87,8 +78,8 @@ module _ (s : Shape) (reads places lists : List ℕ) (p : Piling s reads places 
     in_matrix : (j : ℕ) → j < s.m → heights j ≡ height_at (first_at places) (end_at places) (count M) j
     in_matrix j l = h j l ∙ ap (λ (x : ℕ). height_at (first_at places) (end_at places) x j) (sym (count_is s reads))
 
-    pub crowded_found : (j : ℕ) → record { number = 9; second = j } ≡ crowded heights 0 s.m → crowded (active_count M) 0 s.m ≡ record { number = 9; second = j }
-    crowded_found j e = sym (crowded_is M (first_at places) (end_at places) spanned heights in_matrix) ∙ sym e
+    pub crowded_found : (x : Numbers) → x ≡ crowded heights 0 s.m → crowded (active_count M) 0 s.m ≡ x
+    crowded_found x e = sym (crowded_is M (first_at places) (end_at places) spanned heights in_matrix) ∙ sym e
 
     pub thin_found : (a t : ℕ) → (a ≡ max_to s.m heights) × (a ≤ 12) → t ≡ used a → ThinColumns M t
     unfolding entries
@@ -119,3 +110,11 @@ module _ (s : Shape) (reads places lists : List ℕ) (p : Piling s reads places 
                 few = λ j l. le_trans (le_of_eq (length-active M placed j)) (h.thin j l);
               };
         }
+
+-- once their lists are made placed reads are ready
+pub listed_ready : (p : Placed) (lists : List ℕ) → 13 * p.reads.shape.m ≤ length lists → (t : ℕ) → ThinColumns (matrix_of p.reads) t
+    → (lists' : List ℕ) → length lists' ≡ length lists
+    → ((j : ℕ) → j < p.reads.shape.m → Holds lists' j (list_at (first_at p.places.now) (end_at p.places.now) p.reads.shape.n j))
+    → Ready p.reads.shape p.reads.bytes.now p.places.now lists'
+listed_ready p lists room t h lists' e holds =
+    piled-ready p.reads.shape p.reads.bytes.now p.places.now lists (record { lawful = p.reads.lawful; noted = p.noted; room = room }) t h lists' e holds

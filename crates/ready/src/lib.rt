@@ -23,7 +23,7 @@ pub fn piled(reads: &Reads, places: &mut [u32], lists: &mut [u16]) -> Result<usi
     let shape = reads.shape;
     reads::places(reads, places);
     pile::heights(places, shape.n, lists);
-    let most = pile::tallest(lists, shape.m)?;
+    let most = pile::tallest(shape, lists)?;
     Ok(plain::entries(most))
 }
 

@@ -20,12 +20,6 @@ use Rattle.convert.specs.Walked.{head_bytes}
 pub laid_none : (l : List ℕ) (at : ℕ) → laid at [] l ≡ l
 laid_none l at = ap (λ (k : ℕ). take at l ++ drop k l) (add-zero at) ∙ take-append-drop at l
 
--- a cell
-pub cell-laid : (l : List ℕ) (at letter weight : ℕ) → at + 3 ≤ length l → laid (at + 1) (bytes_of 2 weight) (set l at letter) ≡ laid at (letter ∷ bytes_of 2 weight) l
-cell-laid l at letter weight h =
-    ap (laid (at + 1) (bytes_of 2 weight)) (set-laid l at letter (omega arith))
-    ∙ laid_join at (letter ∷ []) (bytes_of 2 weight) l (omega arith)
-
 -- one cell more
 cells_snoc : (cs : List Cell) (c : Cell) → cells_bytes (cs ++ (c ∷ [])) ≡ cells_bytes cs ++ (c.letter ∷ bytes_of 2 c.weight)
 unfolding cells_bytes bytes_of

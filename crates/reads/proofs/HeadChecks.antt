@@ -3,7 +3,7 @@ use Prim.Native.Nat.{ℕ, ◌+◌, ◌-◌, ◌*◌, ◌/◌, ◌%◌, ◌≤◌
 use mathlib.Core.Bool.{Bool, true, false, cond, not, ◌&&◌, ◌||◌, or-true}
 use mathlib.Core.List.{List}
 use mathlib.Core.Logic.{◌≢◌}
-use mathlib.Core.Path.{◌≡◌, refl, sym, ap}
+use mathlib.Core.Path.{◌≡◌, refl, sym, ap, ◌∙◌}
 use native.Mathlib.Nat.{div-add-mod', mul_comm}
 use native.Mathlib.Omega.{arith}
 use lib.ListN.{length, drop, length-drop}
@@ -13,6 +13,8 @@ use Rattle.meaning.specs.Block.{length_field, first_field, cell_count}
 use Rattle.meaning.specs.Refusals.{bad_length, retired, bad_place}
 use Rattle.meaning.proofs.Tells.{tells_true, tells_false}
 use Rattle.meaning.proofs.ReadChecks.{NotRetired, retired_tells}
+use Rattle.meaning.specs.Numbers.{word}
+use Rattle.layout.proofs.Fields.{length_field_lem}
 use Rattle.layout.proofs.Laws.{Filled, filled}
 use Rattle.reads.specs.Search.{head_fault, CellsLie}
 
@@ -20,17 +22,42 @@ use Rattle.reads.specs.Search.{head_fault, CellsLie}
 filled_by : (size n : ℕ) → n % size ≡ 0 → size * (n / size) ≡ n
 filled_by size n e = omega (arith, mul_comm size (n / size), div-add-mod' n size)
 
-pub left_by : (size n : ℕ) → size * (n / size) ≡ n → n % size ≡ 0
+left_by : (size n : ℕ) → size * (n / size) ≡ n → n % size ≡ 0
 left_by size n e = omega (arith, mul_comm size (n / size), div-add-mod' n size)
 
+-- the read at `at`, by its length field and its number of cells as the code has them
+pub record Seen (size : ℕ) (reads : List ℕ) (at len count : ℕ) : Type 0 where
+  pub bytes_are : length (drop at reads) ≡ length reads - at
+  pub length_is : length_field (drop at reads) ≡ len
+  pub count_is : cell_count size (drop at reads) ≡ count
+
+pub seen : (size : ℕ) (reads : List ℕ) (at len count : ℕ) → len ≡ word reads at → count ≡ (len - 2) / size → Seen size reads at len count
+seen size reads at len count w c =
+    let n : length_field (drop at reads) ≡ len = length_field_lem reads at ∙ sym w in
+    record { bytes_are = length-drop at reads; length_is = n; count_is = ap (λ (l : ℕ). (l - 2) / size) n ∙ sym c }
+
 -- the check 5 passes
-pub good_length : (size : ℕ) (b : List ℕ) → 2 ≤ length_field b → (length_field b - 2) % size ≡ 0 → 2 + length_field b ≤ length b
-    → bad_length size b ≡ false
+pub record Whole (size : ℕ) (b : List ℕ) : Type 0 where
+  pub some : 2 ≤ length_field b
+  pub filled : (length_field b - 2) % size ≡ 0
+  pub inside : 2 + length_field b ≤ length b
+
+pub is_whole : (size : ℕ) (reads : List ℕ) (at len count : ℕ) → Seen size reads at len count → 2 ≤ len → size * count ≡ len - 2 → len + 2 ≤ length reads - at
+    → Whole size (drop at reads)
+is_whole size reads at len count s some filled inside =
+    let b : List ℕ = drop at reads in
+    record {
+      some = omega arith;
+      filled = left_by size (length_field b - 2) (ap (λ (k : ℕ). size * k) s.count_is ∙ filled ∙ ap (λ (l : ℕ). l - 2) (sym s.length_is));
+      inside = omega arith;
+    }
+
+pub good_length : (size : ℕ) (b : List ℕ) → Whole size b → bad_length size b ≡ false
 unfolding bad_length
-good_length size b some filled inside =
+good_length size b w =
     let l : 2 ≤ length b = omega arith in
-    let e = eq-eqb ((length_field b - 2) % size) 0 filled in
-    simp (le-ltb (length b) 2 l, le-ltb (length_field b) 2 some, e, le-ltb (length b) (2 + length_field b) inside)
+    let e = eq-eqb ((length_field b - 2) % size) 0 w.filled in
+    simp (le-ltb (length b) 2 l, le-ltb (length_field b) 2 w.some, e, le-ltb (length b) (2 + length_field b) w.inside)
 
 module _ (size m : ℕ) (b : List ℕ) where
   by_length : bad_length size b ≡ true → 5 ≡ head_fault size m b
@@ -52,12 +79,12 @@ module _ (size m : ℕ) (b : List ℕ) where
   unfolding bad_length
   too_long h = by_length (simp (lt-ltb (length b) (2 + length_field b) h, or-true))
 
-  module _ (some : 2 ≤ length_field b) (filled : (length_field b - 2) % size ≡ 0) (inside : 2 + length_field b ≤ length b) where
+  module _ (whole : Whole size b) where
     pub emptied : size ≡ 3 → cell_count size b ≡ 0 → 38 ≡ head_fault size m b
-    emptied z e = sym (simp (good_length size b some filled inside, tells_true (retired_tells size b) (z, e)))
+    emptied z e = sym (simp (good_length size b whole, tells_true (retired_tells size b) (z, e)))
 
     by_place : NotRetired size b → (t : Bool) → bad_place size m b ≡ t → cond t 6 0 ≡ head_fault size m b
-    by_place k t e = sym (simp (good_length size b some filled inside, tells_false (retired_tells size b) k, e))
+    by_place k t e = sym (simp (good_length size b whole, tells_false (retired_tells size b) k, e))
 
     pub misplaced : size ≢ 3 → cell_count size b ≡ 0 → first_field b ≢ 0 → 6 ≡ head_fault size m b
     unfolding bad_place

@@ -4,7 +4,7 @@ use mathlib.Core.Bool.{Bool, true, false, cond}
 use mathlib.Core.List.{List}
 use mathlib.Core.Logic.{◌≢◌}
 use mathlib.Core.Path.{◌≡◌, sym, ap, ap₂, ◌∙◌}
-use native.Mathlib.Nat.{div-eq_of_eq-mul_right, div-le_self, div-add-mod', mul_comm, mul-le-mul_right}
+use native.Mathlib.Nat.{div-eq_of_eq-mul_right}
 use native.Mathlib.Numerals.{add-one}
 use native.Mathlib.Omega.{arith}
 use lib.ListN.{length, take, drop, length-take, length-drop}
@@ -51,16 +51,6 @@ module _ (size m : ℕ) (b : List ℕ) where
       go false false true h t e = let z : ⊥ = omega arith in absurd z
       go false false false h t e = ap (λ (x : Bool). cond x 7 0) e
 
--- cell i of a part of n bytes lies inside it
-pub cell_below : (size n i : ℕ) → i < n / size → i < n
-cell_below size n i h = omega (arith, div-le_self n size)
-
-pub cell-inside : (size n i : ℕ) → i < n / size → size * i + size ≤ n
-cell-inside size n i h =
-    let next : size * suc i ≡ suc i * size = mul_comm size (suc i) in
-    let below : suc i * size ≤ n / size * size = mul-le-mul_right size h in
-    omega (arith, div-add-mod' n size)
-
 -- the cells of the read at `at`, as the part of the bytes where they lie
 module _ (size : ℕ) (some : 0 < size) (reads : List ℕ) (at : ℕ) (cells : Cells) (lie : CellsLie size reads at cells) where
   abbrev part : List ℕ
@@ -104,11 +94,6 @@ fault_from s n r b = reads_fault s.size s.m n r b
 pub record Left (s : Shape) (reads : List ℕ) (at r : ℕ) : Type 0 where
   pub fault : fault_from s s.n 0 reads ≡ fault_from s (s.n - r) r (drop at reads)
   pub after : after_reads s.n reads ≡ after_reads (s.n - r) (drop at reads)
-
-pub left_all : (s : Shape) (reads : List ℕ) → Left s reads 0 0
-left_all s reads =
-    let e : s.n ≡ s.n - 0 = omega arith in
-    record { fault = ap (λ (k : ℕ). fault_from s k 0 reads) e; after = ap (λ (k : ℕ). after_reads k reads) e }
 
 module _ (s : Shape) (reads : List ℕ) (at r : ℕ) (left : Left s reads at r) where
   abbrev here : List ℕ

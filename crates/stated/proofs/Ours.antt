@@ -57,7 +57,7 @@ module _ (M : Matrix) (a : List ℕ) (m n : ℕ) (sized : Sized a m n) (columns 
   abbrev differs : ℕ → Bool
   differs i = not (eqb (get_or a (17 + i) 0) (get_or (answer general M) (17 + i) 0))
 
-  ours_length : length ours ≡ n
+  pub ours_length : length ours ≡ n
   unfolding sides_of
   ours_length = ap length is ∙ length_run 0 (count M) (λ r. bit (best charge M r)) ∙ sym reads
 

@@ -1,37 +1,36 @@
--- A judgement, as the result of a judging.
-use Rattle.std.specs.Prelude.{ℕ, List}
+-- A verdict, and the result of a judging.
+use Rattle.std.specs.Prelude.{ℕ, List, Result, Ok, Err}
 use Rattle.meaning.specs.Refusals.{Numbers}
 use Rattle.meaning.specs.Judge.{Judged}
-use Rattle.verdict.specs.declared.Judgement.{Judgement}
-use Rattle.verdict.specs.declared.Judgement.TheVariants.{Crowded, Work, Malformed, OtherCounts, UnknownMark, FalseDash, WrongCost, NotLeast, OtherAnswer, Ours}
+use Rattle.refusal.specs.declared.Refusal.{Refusal}
+use Rattle.refusal.specs.Numbers.{refusal_number, refusal_second}
+use Rattle.verdict.specs.declared.Verdict.{Verdict}
+use Rattle.verdict.specs.declared.Verdict.TheVariants.{Malformed, OtherCounts, UnknownMark, FalseDash, WrongCost, NotLeast, OtherAnswer, Ours}
 
-abbrev pub judgement_number : Judgement → ℕ
-judgement_number (Crowded j) = 9
-judgement_number (Work need) = 10
-judgement_number Malformed = 50
-judgement_number OtherCounts = 51
-judgement_number UnknownMark = 52
-judgement_number FalseDash = 53
-judgement_number WrongCost = 54
-judgement_number (NotLeast least) = 55
-judgement_number OtherAnswer = 56
-judgement_number Ours = 57
+abbrev pub verdict_number : Verdict → ℕ
+verdict_number Malformed = 50
+verdict_number OtherCounts = 51
+verdict_number UnknownMark = 52
+verdict_number FalseDash = 53
+verdict_number WrongCost = 54
+verdict_number (NotLeast least) = 55
+verdict_number OtherAnswer = 56
+verdict_number Ours = 57
 
-abbrev pub judgement_second : Judgement → ℕ
-judgement_second (Crowded j) = j
-judgement_second (Work need) = need
-judgement_second Malformed = 0
-judgement_second OtherCounts = 0
-judgement_second UnknownMark = 0
-judgement_second FalseDash = 0
-judgement_second WrongCost = 0
-judgement_second (NotLeast least) = least
-judgement_second OtherAnswer = 0
-judgement_second Ours = 0
+abbrev pub verdict_second : Verdict → ℕ
+verdict_second Malformed = 0
+verdict_second OtherCounts = 0
+verdict_second UnknownMark = 0
+verdict_second FalseDash = 0
+verdict_second WrongCost = 0
+verdict_second (NotLeast least) = least
+verdict_second OtherAnswer = 0
+verdict_second Ours = 0
 
-abbrev pub judgement_numbers : Judgement → Numbers
-judgement_numbers j = record { number = judgement_number j; second = judgement_second j }
+abbrev pub verdict_numbers : Verdict → Numbers
+verdict_numbers v = record { number = verdict_number v; second = verdict_second v }
 
--- with what the work room holds afterwards
-abbrev pub judged_of : Judgement → List ℕ → Judged
-judged_of j work = record { number = judgement_number j; second = judgement_second j; work = work }
+-- a verdict, or a refusal, with what the work room holds afterwards
+abbrev pub judged_of : Result Verdict Refusal → List ℕ → Judged
+judged_of (Ok v) work = record { number = verdict_number v; second = verdict_second v; work = work }
+judged_of (Err e) work = record { number = refusal_number e; second = refusal_second e; work = work }

@@ -3,16 +3,19 @@
 
 ghost use Rattle.std.specs.Prelude.{◌≡◌, ◌*◌, ◌≤◌, length};
 ghost use Rattle.meaning.specs.Judge.{other_answer, verdict};
-ghost use Rattle.layout.specs.Reads.{matrix_in};
-ghost use Rattle.stated.specs.Stated.{Sized, StatedTally};
-ghost use Rattle.verdict.specs.Judgements.{judgement_numbers};
+ghost use Rattle.meaning.specs.Charge.{charge, best};
+ghost use Rattle.meaning.specs.Answer.{sides_of};
+ghost use Rattle.layout.specs.Matrices.{matrix_of};
+ghost use Rattle.stated.specs.Stated.{Sized};
+ghost use Rattle.verdict.specs.Verdicts.{verdict_numbers};
 ghost use Rattle.verdict.specs.Stages.{Filled, Marked};
 
-// The refusals 9 with the column and 10 with the size needed, and the verdicts 50 to 57, 55 with the least cost.
+use layout::Listed;
+use stated::Stated;
+
+// The verdicts 50 to 57, 55 with the least cost.
 #[derive(Clone, Copy)]
-pub enum Judgement {
-    Crowded(u32),
-    Work(u32),
+pub enum Verdict {
     Malformed,
     OtherCounts,
     UnknownMark,
@@ -23,90 +26,79 @@ pub enum Judgement {
     Ours,
 }
 
-// 56: other sides or letters than ours. `sides` is room for ours.
-fn other_answer(
-    shape: layout::Shape,
-    reads: &[u8],
-    places: &[u32],
-    lists: &[u16],
-    t: usize,
-    work: &[u32],
-    tally: &[u32],
-    answer: &[u8],
-    sides: &mut [u8],
-) -> bool
-    requires filled { Filled shape reads.now places.now lists.now t work.now }
-    requires sized { Sized answer.now shape.m shape.n × StatedTally (matrix_in shape reads.now) answer.now tally.now }
-    requires n_value { shape.n ≡ length sides.old }
-    ensures { result ≡ other_answer (matrix_in shape reads.now) answer.now }
+// 56: other sides or letters than ours.
+fn other_answer(stated: &Stated, ours: &[u8]) -> bool
+    requires { ours.now ≡ sides_of (matrix_of stated.now.reads) (best charge (matrix_of stated.now.reads)) }
+    ensures { result ≡ other_answer (matrix_of stated.now.reads) stated.now.answer.now }
 {
-    sides::write_sides(shape, reads, places, lists, t, work, sides);
-    let e = 17 + shape.n;
-    if stated::other_sides(sides, &answer[17..e]) {
+    let e = 17 + stated.reads.shape.n;
+    if stated::other_sides(ours, &stated.answer[17..e]) {
         return true;
     }
-    stated::other_letters(shape, reads, tally, answer)
+    stated.other_letters()
 }
 
-// 53 to 57, of an answer of our size with known marks. Its sides are tallied once for all that follows.
+// 53 to 57, of an answer of our size with known marks. Its sides are tallied once for all that follows. `sides` is room for ours.
 fn weighed(
-    shape: layout::Shape,
-    reads: &[u8],
-    places: &[u32],
-    lists: &[u16],
+    listed: &Listed,
     t: usize,
     work: &[u32],
     tally: &mut [u32],
     answer: &[u8],
     sides: &mut [u8],
-) -> Judgement
-    requires filled { Filled shape reads.now places.now lists.now t work.now }
-    requires sized { Sized answer.now shape.m shape.n × Marked (matrix_in shape reads.now) answer.now }
-    requires m_in_bounds { (4 * shape.m ≤ length tally.old) × (shape.n ≡ length sides.old) }
-    ensures { judgement_numbers result ≡ verdict (matrix_in shape reads.now) answer.now }
+) -> Verdict
+    requires filled { Filled listed.now.reads t work.now }
+    requires sized { Sized answer.now listed.now.reads.shape.m listed.now.reads.shape.n × Marked (matrix_of listed.now.reads) answer.now }
+    requires m_in_bounds { (4 * listed.now.reads.shape.m ≤ length tally.old) × (listed.now.reads.shape.n ≡ length sides.old) }
+    ensures { verdict_numbers result ≡ verdict (matrix_of listed.now.reads) answer.now }
 {
-    let e = 17 + shape.n;
-    tally::tally(shape, reads, places, &answer[17..e], tally);
-    if stated::false_dash(shape, reads, tally, answer) {
-        return Judgement::FalseDash;
+    let reads = listed.reads;
+    let e = 17 + reads.shape.n;
+    tally::tally(&listed.placed(), &answer[17..e], tally);
+    let stated = Stated {
+        reads,
+        tally,
+        answer,
+    };
+    if stated.false_dash() {
+        return Verdict::FalseDash;
     }
-    if stated::wrong_cost(shape, reads, tally, answer) {
-        return Judgement::WrongCost;
+    if stated.wrong_cost() {
+        return Verdict::WrongCost;
     }
-    let least = sides::least_last(shape, reads, places, lists, t, work);
-    if plain::place(least) < layout::long_at(answer, 5) {
-        return Judgement::NotLeast(least);
+    let least = sides::least_last(listed, t, work);
+    if (least as usize) < layout::long_at(answer, 5) {
+        return Verdict::NotLeast(least);
     }
-    if other_answer(shape, reads, places, lists, t, work, tally, answer, sides) {
-        return Judgement::OtherAnswer;
+    sides::write_sides(listed, t, work, sides);
+    if other_answer(&stated, sides) {
+        return Verdict::OtherAnswer;
     }
-    Judgement::Ours
+    Verdict::Ours
 }
 
 // The first verdict that applies, for reads whose table is filled. `tally` and `sides` are room to work in.
 pub fn judged(
-    shape: layout::Shape,
-    reads: &[u8],
-    places: &[u32],
-    lists: &[u16],
+    listed: &Listed,
     t: usize,
     work: &[u32],
     tally: &mut [u32],
     answer: &[u8],
     sides: &mut [u8],
-) -> Judgement
-    requires filled { Filled shape reads.now places.now lists.now t work.now }
-    requires m_in_bounds { (4 * shape.m ≤ length tally.old) × (shape.n ≡ length sides.old) }
-    ensures { judgement_numbers result ≡ verdict (matrix_in shape reads.now) answer.now }
+) -> Verdict
+    requires filled { Filled listed.now.reads t work.now }
+    requires m_in_bounds { (4 * listed.now.reads.shape.m ≤ length tally.old) × (listed.now.reads.shape.n ≡ length sides.old) }
+    ensures { verdict_numbers result ≡ verdict (matrix_of listed.now.reads) answer.now }
 {
+    let shape = listed.reads.shape;
     if stated::malformed(answer) {
-        return Judgement::Malformed;
+        return Verdict::Malformed;
     }
     if stated::other_counts(shape, answer) {
-        return Judgement::OtherCounts;
+        return Verdict::OtherCounts;
     }
     if stated::unknown_mark(shape, answer) {
-        return Judgement::UnknownMark;
+        return Verdict::UnknownMark;
     }
-    weighed(shape, reads, places, lists, t, work, tally, answer, sides)
+    weighed(listed, t, work, tally, answer, sides)
 }

@@ -22,7 +22,6 @@ use Rattle.meaning.proofs.Modes.{Fair}
 use Rattle.meaning.proofs.SidesRead.{sides_division}
 use Rattle.meaning.proofs.Closing.{Placed}
 use Rattle.meaning.proofs.Rule.{rule_cost, rule_back}
-use Rattle.meaning.proofs.Rooms.{length-laid}
 use Rattle.sides.specs.Ways.{table_least, table_division}
 use Rattle.written.specs.Output.{division_in, flips_of, with_letters, RightColumns}
 use Rattle.answer.specs.Head.{head_bytes}
@@ -66,15 +65,9 @@ finished mode M n m cost flipped old o1 o2 o3 e f fits a b c d g =
     (c ∙ ap₂ (λ (x : Division) (y : List ℕ). laid (17 + n + m) (letters_of mode M x true) (laid (17 + n) (letters_of mode M x false) y)) s a)
     ∙ answered mode M n m cost flipped old e f fits d (b ∙ ap (λ (x : Division). flips M x (haplotypes mode M x)) s)
 
--- the sides' part keeps its length, and so does the output
+-- the sides' part keeps its length
 pub sides-size : (n : ℕ) (sides old : List ℕ) → length sides ≡ length (take (17 + n - 17) (drop 17 old)) → 17 + n ≤ length old → length sides ≡ n
 sides-size n sides old e l = e ∙ length-take-le (17 + n - 17) (drop 17 old) (omega (arith, length-drop 17 old)) ∙ omega arith
-
-pub output_length : (n : ℕ) (sides old : List ℕ) → length sides ≡ length (take (17 + n - 17) (drop 17 old)) → 17 + n ≤ length old
-    → length (take 17 old ++ (sides ++ drop (17 + n - 17) (drop 17 old))) ≡ length old
-output_length n sides old e l =
-    let k : length sides ≡ n = sides-size n sides old e l in
-    ap length (sides-laid n sides old k l) ∙ length-laid 17 sides old (omega arith)
 
 -- the least entry of the last column is the cost
 pub cost_is : (mode : Mode) → Fair mode → (M : Matrix) → Placed M → 0 < M.columns → (work : List ℕ) → RightColumns (charge_in mode) M work → table_least M work ≡ least_cost (charge_in mode) M

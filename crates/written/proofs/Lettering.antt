@@ -18,7 +18,7 @@ use Rattle.letters.specs.declared.Letters.{Letters}
 use Rattle.tally.specs.Tally.{Tallied}
 use Rattle.letters.specs.Lettered.{Lettered}
 use Rattle.written.specs.Output.{division_in, flips_of, with_letters}
-use Rattle.written.proofs.Pairs.{pairs_to, pairs_none, pairs_length, pairs_more}
+use Rattle.written.proofs.Pairs.{pairs_to, pairs_none, pairs_more}
 
 -- the sides as a part of the output
 module _ (n : ℕ) (out : List ℕ) where
@@ -44,8 +44,6 @@ flips_at mode M d j = sum_to (count M) (λ q. bit (is_flip (haplotypes mode M d 
 
 -- the letters of the first j columns are written, and their flips counted
 pub record Written (mode : Mode) (M : Matrix) (n m : ℕ) (old out : List ℕ) (flipped j : ℕ) : Type 0 where
-  pub inside : j ≤ m
-  pub same_length : length out ≡ length old
   pub letters : out ≡ pairs_to (17 + n) m (letter_at mode M (division_in n old) false) (letter_at mode M (division_in n old) true) j old
   pub flips_are : flipped ≡ sum_to j (flips_at mode M (division_in n old))
   pub flips-few : flipped ≤ 1024 * j
@@ -58,8 +56,6 @@ module _ (mode : Mode) (M : Matrix) (n m : ℕ) (old : List ℕ) (fits : 17 + n 
   unfolding sum_to
   written_none =
       record {
-        inside = zero-le;
-        same_length = refl;
         letters = pairs_none (17 + n) m (letter_at mode M d false) (letter_at mode M d true) old fits;
         flips_are = refl;
         flips-few = zero-le;
@@ -74,19 +70,16 @@ module _ (mode : Mode) (M : Matrix) (n m : ℕ) (old : List ℕ) (fits : 17 + n 
         ∙ ap₂ (λ (a c : ℕ). set (set (pairs_to (17 + n) m (letter_at mode M d false) (letter_at mode M d true) j old) (17 + n + j) a) (17 + n + m + j) c) z.first_is z.second_is
         ∙ pairs_more (17 + n) m (letter_at mode M d false) (letter_at mode M d true) old fits j l in
         record {
-          inside = omega arith;
-          same_length = ap length new ∙ pairs_length (17 + n) m (letter_at mode M d false) (letter_at mode M d true) old fits (j + 1) (omega arith);
           letters = new;
           flips_are = ap₂ (λ (a c : ℕ). a + c) w.flips_are z.flips_are ∙ sym (leaf_more j (flips_at mode M d));
           flips-few = omega (arith, w.flips-few, z.flips-few);
         }
 
     -- all columns done
-    pub written_all : m ≡ M.columns → m ≤ j
+    pub written_all : j ≡ M.columns
         → (flipped ≡ flips_of mode M d) × (out ≡ with_letters mode M d n m old)
     unfolding flips letters_of
-    written_all e l =
-        let k : j ≡ M.columns = omega (arith, w.inside) in (
-          w.flips_are ∙ ap (λ (i : ℕ). sum_to i (flips_at mode M d)) k,
-          w.letters ∙ ap (λ (i : ℕ). pairs_to (17 + n) m (letter_at mode M d false) (letter_at mode M d true) i old) k,
-        )
+    written_all k = (
+      w.flips_are ∙ ap (λ (i : ℕ). sum_to i (flips_at mode M d)) k,
+      w.letters ∙ ap (λ (i : ℕ). pairs_to (17 + n) m (letter_at mode M d false) (letter_at mode M d true) i old) k,
+    )

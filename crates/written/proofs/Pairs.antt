@@ -23,11 +23,6 @@ module _ (at m : ℕ) (f g : ℕ → ℕ) (out : List ℕ) (fits : at + 2 * m �
       nothing : (at : ℕ) (x : List ℕ) → laid at [] x ≡ x
       nothing at x = ap (λ (k : ℕ). take at x ++ drop k x) (add-zero at) ∙ take-append-drop at x
 
-  pub pairs_length : (j : ℕ) → j ≤ m → length (pairs_to at m f g j out) ≡ length out
-  pairs_length j l =
-      let a : length (laid at (run 0 j f) out) ≡ length out = length-laid at (run 0 j f) out (omega (arith, length_run 0 j f)) in
-      length-laid (at + m) (run 0 j g) (laid at (run 0 j f) out) (omega (arith, length_run 0 j g)) ∙ a
-
   pub pairs_more : (j : ℕ) → j < m → set (set (pairs_to at m f g j out) (at + j) (f j)) (at + m + j) (g j) ≡ pairs_to at m f g (j + 1) out
   pairs_more j l =
       let a : length (run 0 j f) ≡ j = length_run 0 j f in

@@ -1,6 +1,6 @@
 use mathlib.Core.Path.{◌≡◌, sym, ◌∙◌}
 use Rattle.meaning.specs.Judge.{other_counts}
-use Rattle.layout.specs.Reads.{matrix_in}
+use Rattle.layout.specs.Matrices.{matrix_of}
 use Rattle.layout.proofs.Laws.{count_is}
 use Rattle.stated.specs.Stated.{Sized}
 use Rattle.stated.proofs.Marks.{seventeen, same_counts}
@@ -15,30 +15,28 @@ other_counts-requires c = seventeen c.args.answer.now (sym c.malformed.ensures �
 
 pub returns-then-other_counts : goal.returns-then-other_counts
 returns-then-other_counts c =
+    let r = c.args.listed.now.reads in
     -- other n or m
-    let counts : let a = c.args in c.other_counts.result ≡ other_counts (matrix_in a.shape a.reads.now) a.answer.now = c.other_counts.ensures ∙ counts_told _ c.args.answer.now c.args.shape.n (count_is c.args.shape c.args.reads.now) in
+    let counts : c.other_counts.result ≡ other_counts (matrix_of r) c.args.answer.now = c.other_counts.ensures ∙ counts_told _ c.args.answer.now r.shape.n (count_is r.shape r.bytes.now) in
     gives_51 _ c.args.answer.now _ c.malformed.ensures c.if-malformed.false _ counts c.if-other_counts.true
 
 pub unknown_mark-requires : goal.unknown_mark-requires
 unknown_mark-requires c =
-    -- an answer of our size
-    let sized : let a = c.args in Sized a.answer.now a.shape.m a.shape.n = let h = c.requires.filled.ready.lawful in
-    same_counts c.args.answer.now c.args.shape.m c.args.shape.n h.few-columns h.few-reads (sym c.malformed.ensures ∙ c.if-malformed.false)
-    (sym c.other_counts.ensures ∙ c.if-other_counts.false) in
-    sized
+    let s = c.args.listed.now.reads.shape in
+    same_counts c.args.answer.now s.m s.n s.few_columns s.few_reads (sym c.malformed.ensures ∙ c.if-malformed.false) (sym c.other_counts.ensures ∙ c.if-other_counts.false)
 
 pub returns-then-unknown_mark : goal.returns-then-unknown_mark
 returns-then-unknown_mark c =
-    let counts : let a = c.args in c.other_counts.result ≡ other_counts (matrix_in a.shape a.reads.now) a.answer.now = c.other_counts.ensures ∙ counts_told _ c.args.answer.now c.args.shape.n (count_is c.args.shape c.args.reads.now) in
+    let r = c.args.listed.now.reads in
+    let counts : c.other_counts.result ≡ other_counts (matrix_of r) c.args.answer.now = c.other_counts.ensures ∙ counts_told _ c.args.answer.now r.shape.n (count_is r.shape r.bytes.now) in
     gives_52 _ c.args.answer.now _ c.malformed.ensures c.if-malformed.false _ counts c.if-other_counts.false _ c.unknown_mark.ensures c.if-unknown_mark.true
 
-pub weighed-requires : goal.weighed-requires
-weighed-requires c =
-    let counts : let a = c.args in c.other_counts.result ≡ other_counts (matrix_in a.shape a.reads.now) a.answer.now = c.other_counts.ensures ∙ counts_told _ c.args.answer.now c.args.shape.n (count_is c.args.shape c.args.reads.now) in
-    let sized : let a = c.args in Sized a.answer.now a.shape.m a.shape.n = let h = c.requires.filled.ready.lawful in
-    same_counts c.args.answer.now c.args.shape.m c.args.shape.n h.few-columns h.few-reads (sym c.malformed.ensures ∙ c.if-malformed.false)
-    (sym c.other_counts.ensures ∙ c.if-other_counts.false) in
-    record { filled = c.requires.filled; sized = (sized, is_marked _ c.args.answer.now _ c.malformed.ensures c.if-malformed.false _ counts c.if-other_counts.false _ c.unknown_mark.ensures c.if-unknown_mark.false); m_in_bounds = c.requires.m_in_bounds }
-
-pub returns : goal.returns
-returns c = c.weighed.ensures
+pub weighed-requires-clause-sized : goal.weighed-requires-clause-sized
+weighed-requires-clause-sized c =
+    let r = c.args.listed.now.reads in
+    let a = c.args.answer.now in
+    let counts : c.other_counts.result ≡ other_counts (matrix_of r) a = c.other_counts.ensures ∙ counts_told _ a r.shape.n (count_is r.shape r.bytes.now) in
+    -- an answer of our size
+    let sized : Sized a r.shape.m r.shape.n =
+    same_counts a r.shape.m r.shape.n r.shape.few_columns r.shape.few_reads (sym c.malformed.ensures ∙ c.if-malformed.false) (sym c.other_counts.ensures ∙ c.if-other_counts.false) in
+    (sized, is_marked _ a _ c.malformed.ensures c.if-malformed.false _ counts c.if-other_counts.false _ c.unknown_mark.ensures c.if-unknown_mark.false)

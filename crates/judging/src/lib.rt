@@ -56,7 +56,7 @@ pub fn judge(
     scratch: &mut [u32],
     sides: &mut [u8],
 ) -> Result<Verdict, Refusal>
-    requires rooms { Rooms reads.now.shape places.old lists.old scratch.old × (reads.now.shape.n ≤ length sides.old) }
+    requires { Rooms reads.now.shape places.old lists.old scratch.old × (reads.now.shape.n ≤ length sides.old) }
     ensures { judged_of result work.new ≡ judging_on (matrix_of reads.now) answer.now work.old }
 {
     let t = ready::piled(reads, places, lists)?;

@@ -56,7 +56,7 @@ fn refused(
     lists: &mut [u16],
     scratch: &mut [u32],
 ) -> Result<u32, Refusal>
-    requires rooms { Rooms reads.now.shape places.old lists.old scratch.old }
+    requires { Rooms reads.now.shape places.old lists.old scratch.old }
     ensures { (margins : List ℕ) → length margins < 2 * reads.now.shape.m → result_of result work.new out.now margins
         ≡ margin_call_on (matrix_of reads.now) work.old out.now margins }
 {
@@ -80,7 +80,7 @@ pub fn solve(
     lists: &mut [u16],
     scratch: &mut [u32],
 ) -> Result<u32, Refusal>
-    requires rooms { Rooms reads.now.shape places.old lists.old scratch.old }
+    requires { Rooms reads.now.shape places.old lists.old scratch.old }
     ensures { result_of result work.new out.new margins.new
         ≡ margin_call_on (matrix_of reads.now) work.old out.old margins.old }
 {

@@ -60,7 +60,7 @@ pub fn solve(
     lists: &mut [u16],
     scratch: &mut [u32],
 ) -> Result<u32, Refusal>
-    requires rooms { Rooms reads.now.shape places.old lists.old scratch.old }
+    requires { Rooms reads.now.shape places.old lists.old scratch.old }
     ensures { result_of result work.new out.new
         ≡ call_on (mode_of heterozygous) (matrix_of reads.now) work.old out.old }
 {

@@ -7,7 +7,7 @@ ghost use Rattle.meaning.specs.Charge.{charge, best};
 ghost use Rattle.meaning.specs.Answer.{sides_of};
 ghost use Rattle.layout.specs.Matrices.{matrix_of};
 ghost use Rattle.stated.specs.Stated.{Sized};
-ghost use Rattle.verdict.specs.Verdicts.{verdict_numbers};
+ghost use Rattle.verdict.specs.Verdicts.{verdict_number, verdict_second, verdict_numbers};
 ghost use Rattle.verdict.specs.Stages.{Filled, Marked};
 
 use layout::Listed;
@@ -24,6 +24,34 @@ pub enum Verdict {
     NotLeast(u32),
     OtherAnswer,
     Ours,
+}
+
+impl Verdict {
+    // The number that a judging returns.
+    pub fn number(self) -> u32
+        ensures { result ≡ verdict_number self }
+    {
+        match self {
+            Verdict::Malformed => 50,
+            Verdict::OtherCounts => 51,
+            Verdict::UnknownMark => 52,
+            Verdict::FalseDash => 53,
+            Verdict::WrongCost => 54,
+            Verdict::NotLeast(_) => 55,
+            Verdict::OtherAnswer => 56,
+            Verdict::Ours => 57,
+        }
+    }
+
+    // Its second number: the least cost where the answer's is not, otherwise 0.
+    pub fn second(self) -> u32
+        ensures { result ≡ verdict_second self }
+    {
+        match self {
+            Verdict::NotLeast(least) => least,
+            _ => 0,
+        }
+    }
 }
 
 // 56: other sides or letters than ours.

@@ -1,5 +1,4 @@
 use native.Mathlib.Omega.{arith}
-use Prim.Native.Nat.{◌*◌, ◌≤◌}
 use mathlib.Core.Path.{sym}
 use native.Mathlib.Nat.{le_trans, le_of_eq}
 use Rattle.meaning.specs.Letters.{charge_in, mode_of}

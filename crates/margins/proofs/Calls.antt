@@ -6,7 +6,7 @@ use lib.ListN.{length, take, drop}
 use lib.Seq.{take_at}
 use mathlib.Core.Bool.{Bool, true, false, cond}
 use mathlib.Core.List.{List, ◌++◌}
-use mathlib.Core.Logic.{◌≢◌}
+use mathlib.Core.Logic.{◌≢◌, ◌⊎◌, inl, inr}
 use mathlib.Core.Path.{◌≡◌, refl, sym, ap, ◌∙◌}
 use native.Mathlib.Decide.{ℕ_discrete}
 use native.Mathlib.Omega.{arith}
@@ -27,6 +27,13 @@ use Rattle.meaning.proofs.SidesRead.{sides_division}
 use Rattle.meaning.proofs.MarginCall.{margin_on_refused, margin_on_short, margin_on_accepted}
 use Rattle.layout.specs.Lists.{Thin}
 use Rattle.written.specs.Output.{division_in}
+use Rattle.std.specs.Prelude.{Err}
+use Rattle.std.proofs.lemmas.Bool.{cases_lt}
+use Rattle.refusal.specs.Numbers.{refusal_number, refusal_second}
+use Rattle.refusal.specs.declared.Refusal.{Refusal}
+use Rattle.refusal.specs.declared.Refusal.TheVariants.{Short, Version, Size, Counts, Length, Empty, Place, Cell, LeftOver, Crowded, Work, Output, Margins, Room}
+use Rattle.solve.specs.Outcomes as solve
+use Rattle.margins.specs.Outcomes.{result_of}
 
 -- where the solver is given the output itself
 module _ (M : Matrix) (work out margins : List ℕ) (i s : ℕ) (work' out' : List ℕ)
@@ -172,6 +179,13 @@ module _ (M : Matrix) (work : List ℕ) where
     unfolding refuses
     number_told = ap (λ (r : Result). r.number) told
 
+    number_most : i ≤ 11
+    number_most = go given_so
+      where
+        go : Given → i ≤ 11
+        go (early n e) = omega (arith, number_told, before_most, ap (λ (x : Numbers). x.number) e)
+        go (late b e) = omega (arith, number_told, ap (λ (x : Numbers). x.number) e)
+
     -- so that it gives no cost
     pub no_cost : i ≢ 0
     no_cost z = refused_always (ap (λ (x : Numbers). x.number) given_none ∙ sym number_told ∙ z)
@@ -222,3 +236,39 @@ module _ (M : Matrix) (work : List ℕ) where
             let e = large_output (length out) (omega (arith, size_told)) ∙ or_pass before passed passed_before in
             ap (λ (r : Result). record { number = 13; second = 2 * M.columns; work = r.work; out = out; margins = margins }) told
             ∙ sym (margin_on_short M work out margins (ap (λ (x : Numbers). x.number) e) k)
+
+-- what the solver told of an output of one byte, with 11 told anew, is so of the output itself
+module _ (M : Matrix) (work none : List ℕ) (short : length none < 17) (work' none' out margins : List ℕ) (k : length margins < 2 * M.columns) where
+  -- what is told in place of e
+  pub record Anew (e r : Refusal) : Type 0 where
+    pub output : (size : ℕ) → e ≡ Output size → (length out < size → r ≡ e) × (size ≤ length out → r ≡ Margins (2 * M.columns))
+    pub other : ((size : ℕ) → e ≢ Output size) → r ≡ e
+
+  abbrev so : Refusal → Type 0
+  so r = result_of (Err r) work' out margins ≡ margin_call_on M work out margins
+
+  unchanged : (e : Refusal) → refusal_number e ≤ 10 → solve.result_of (Err e) work' none' ≡ call_on general M work none → so e
+  unchanged e l is = early_so M work none short (refusal_number e) (refusal_second e) work' none' is out margins l
+
+  never : (e : Refusal) → 12 ≤ refusal_number e → solve.result_of (Err e) work' none' ≡ call_on general M work none → (r : Refusal) → so r
+  never e l is r = absurd (omega (arith, number_most M work none short (refusal_number e) (refusal_second e) work' none' is))
+
+  pub told_anew : (e r : Refusal) → solve.result_of (Err e) work' none' ≡ call_on general M work none → Anew e r → so r
+  told_anew Short r is a = rw (a.other (λ s q. cc)) (unchanged Short (omega arith) is)
+  told_anew Version r is a = rw (a.other (λ s q. cc)) (unchanged Version (omega arith) is)
+  told_anew Size r is a = rw (a.other (λ s q. cc)) (unchanged Size (omega arith) is)
+  told_anew Counts r is a = rw (a.other (λ s q. cc)) (unchanged Counts (omega arith) is)
+  told_anew (Length x) r is a = rw (a.other (λ s q. cc)) (unchanged (Length x) (omega arith) is)
+  told_anew (Empty x) r is a = never (Empty x) (omega arith) is r
+  told_anew (Place x) r is a = rw (a.other (λ s q. cc)) (unchanged (Place x) (omega arith) is)
+  told_anew (Cell x) r is a = rw (a.other (λ s q. cc)) (unchanged (Cell x) (omega arith) is)
+  told_anew LeftOver r is a = rw (a.other (λ s q. cc)) (unchanged LeftOver (omega arith) is)
+  told_anew (Crowded j) r is a = rw (a.other (λ s q. cc)) (unchanged (Crowded j) (omega arith) is)
+  told_anew (Work x) r is a = rw (a.other (λ s q. cc)) (unchanged (Work x) (omega arith) is)
+  told_anew (Margins x) r is a = never (Margins x) (omega arith) is r
+  told_anew (Room x) r is a = never (Room x) (omega arith) is r
+  told_anew (Output size) r is a = go (cases_lt (length out) size)
+    where
+      go : (length out < size) ⊎ (size ≤ length out) → so r
+      go (inl l) = rw ((a.output size refl).0 l) (output_so M work none short 11 size work' none' is out margins refl l)
+      go (inr l) = rw ((a.output size refl).1 l) (short_so M work none short 11 size work' none' is out margins refl l k)

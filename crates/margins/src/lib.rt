@@ -1,7 +1,7 @@
 // The solver that gives the margins too: the checks 9, 10, 11 and 13, then what the solver writes, then the margins of its division.
 #![tactic(auto)]
 
-ghost use Rattle.std.specs.Prelude.{◌≡◌, List, ℕ, ◌+◌, ◌*◌, ◌≤◌, ◌<◌, length};
+ghost use Rattle.std.specs.Prelude.{◌≡◌, ◌≢◌, List, ℕ, ◌+◌, ◌*◌, ◌≤◌, ◌<◌, length};
 ghost use Rattle.meaning.specs.Block.{Matrix};
 ghost use Rattle.meaning.specs.Answer.{division_of};
 ghost use Rattle.meaning.specs.Call.{over};
@@ -11,6 +11,7 @@ ghost use Rattle.layout.specs.Lists.{Thin};
 ghost use Rattle.tally.specs.Tally.{Tallied};
 ghost use Rattle.written.specs.Output.{division_in};
 ghost use Rattle.solve.specs.Rooms.{Rooms};
+ghost use Rattle.refusal.specs.declared.Refusal.TheVariants.{Output, Margins};
 ghost use Rattle.margins.specs.Outcomes.{result_of};
 
 use layout::{Placed, Reads};
@@ -47,6 +48,25 @@ fn margined(reads: &Reads, out: &[u8], margins: &mut [u32], places: &mut [u32], 
     write_margins(reads.shape.m, tally, margins);
 }
 
+// What is told of a run too short, by what the solver tells of an output too short: 11 stays where the output is too small, and becomes 13
+// where it is not.
+fn short_run(refusal: Refusal, out: usize, need: u32) -> Refusal
+    ensures output { (size : ℕ) → refusal ≡ Output size
+        → (out < size → result ≡ refusal) × (size ≤ out → result ≡ Margins need) }
+    ensures other { ((size : ℕ) → refusal ≢ Output size) → result ≡ refusal }
+{
+    match refusal {
+        Refusal::Output(size) => {
+            if out < size as usize {
+                refusal
+            } else {
+                Refusal::Margins(need)
+            }
+        }
+        _ => refusal,
+    }
+}
+
 // A run too short for the margins: 9, 10 or 11 where one of them applies, otherwise 13. An output of one byte lets the solver write nothing.
 fn refused(
     reads: &Reads,
@@ -61,11 +81,10 @@ fn refused(
         ≡ margin_call_on (matrix_of reads.now) work.old out.now margins }
 {
     let mut none = [0u8; 1];
+    let need = (2 * reads.shape.m) as u32;
     match solve::solve(reads, false, work, &mut none, places, lists, scratch) {
-        Err(Refusal::Output(need)) if need as usize <= out.len() => {
-            Err(Refusal::Margins((2 * reads.shape.m) as u32))
-        }
-        refused => refused,
+        Ok(cost) => Ok(cost),
+        Err(refusal) => Err(short_run(refusal, out.len(), need)),
     }
 }
 

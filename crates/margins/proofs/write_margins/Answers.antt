@@ -18,12 +18,6 @@ overflow_add-margins c = omega (arith, c.loop-j-test.true, c.requires.2)
 pub bounds-margins-m : goal.bounds-margins-m
 bounds-margins-m c = simp length-set (omega (arith, c.loop-j.invariant.same_length, c.loop-j-test.true, c.requires.1))
 
-pub overflow_add-j : goal.overflow_add-j
-overflow_add-j c = omega (arith, c.loop-j-test.true, c.requires.2)
-
-pub loop-j-smaller : goal.loop-j-smaller
-loop-j-smaller c = omega (arith, c.loop-j-test.true)
-
 pub loop-j-preserved : goal.loop-j-preserved
 loop-j-preserved c =
     margined_more c.args.m c.args.tally.now c.args.margins.now c.requires.1 c.loop-j.margins c.loop-j.j c.loop-j.invariant

@@ -26,12 +26,12 @@ small_rooms s m n =
     }
 
 -- for every block
-pub large_rooms : (s : Shape) → s.m ≤ 1024 → s.n ≤ 1024 → Rooms s (replicate 3072 0) (replicate 13312 0) (replicate 4096 0)
-large_rooms s m n =
+pub large_rooms : (s : Shape) → Rooms s (replicate 3072 0) (replicate 13312 0) (replicate 4096 0)
+large_rooms s =
     record {
-      places_room = omega arith;
-      lists_room = omega arith;
+      places_room = omega (arith, s.few_reads);
+      lists_room = omega (arith, s.few_columns);
       lists_empty = refl;
       taken_room = any_reads_room s.n;
-      tally_room = omega arith;
+      tally_room = omega (arith, s.few_columns);
     }

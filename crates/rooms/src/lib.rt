@@ -30,7 +30,8 @@ fn solved_in<const PLACES: usize, const LISTS: usize, const SCRATCH: usize>(
     work: &mut [u32],
     out: &mut [u8],
 ) -> Result<u32, Refusal>
-    requires { Rooms reads.now.shape (replicate PLACES 0) (replicate LISTS 0) (replicate SCRATCH 0) }
+    requires sizes { (PLACES ≤ 65536) × (LISTS ≤ 65536) × (SCRATCH ≤ 65536) }
+    requires rooms { Rooms reads.now.shape (replicate PLACES 0) (replicate LISTS 0) (replicate SCRATCH 0) }
     ensures { result_of result work.new out.new
         ≡ call_on (mode_of heterozygous) (matrix_of reads.now) work.old out.old }
 {
@@ -63,7 +64,8 @@ fn margined_in<const PLACES: usize, const LISTS: usize, const SCRATCH: usize>(
     out: &mut [u8],
     margins: &mut [u32],
 ) -> Result<u32, Refusal>
-    requires { Rooms reads.now.shape (replicate PLACES 0) (replicate LISTS 0) (replicate SCRATCH 0) }
+    requires sizes { (PLACES ≤ 65536) × (LISTS ≤ 65536) × (SCRATCH ≤ 65536) }
+    requires rooms { Rooms reads.now.shape (replicate PLACES 0) (replicate LISTS 0) (replicate SCRATCH 0) }
     ensures { with_margins.result_of result work.new out.new margins.new
         ≡ margin_call_on (matrix_of reads.now) work.old out.old margins.old }
 {

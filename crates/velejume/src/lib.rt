@@ -11,12 +11,12 @@ ghost use Rattle.meaning.specs.Convert.{converting};
 ghost use Rattle.refusal.specs.Numbers.{refusal_number, refusal_second, call_numbers};
 ghost use Rattle.solve.specs.Outcomes.{result_of};
 ghost use Rattle.margins.specs.Outcomes as with_margins;
-ghost use Rattle.verdict.specs.Verdicts.{judged_of};
+ghost use Rattle.verdict.specs.Verdicts.{verdict_number, verdict_second, judged_of};
 
 use refusal::Refusal;
 use verdict::Verdict;
 
-// The number that a call returns, and its second number.
+// The number that a call returns, and its second number: they go to C, so they stay numbers.
 #[derive(Clone, Copy)]
 pub struct Numbers {
     pub number: u32,
@@ -34,8 +34,19 @@ impl From<Refusal> for Numbers {
     }
 }
 
+impl From<Verdict> for Numbers {
+    ghost from_gives = { λ v r. (r.number ≡ verdict_number v) × (r.second ≡ verdict_second v) };
+
+    fn from(verdict: Verdict) -> Numbers {
+        Numbers {
+            number: verdict.number(),
+            second: verdict.second(),
+        }
+    }
+}
+
 // The numbers of a call: 0 with the cost, or those of its refusal.
-fn numbers(found: Result<u32, Refusal>) -> Numbers
+fn told(found: Result<u32, Refusal>) -> Numbers
     ensures { (result.number ≡ (call_numbers found).number) × (result.second ≡ (call_numbers found).second) }
 {
     match found {
@@ -63,23 +74,25 @@ fn called(
 
 // Phases a fragment block: the least cost, the table in the work room and the answer block in the output, or a refusal that leaves
 // both as they were.
+#[tactic(auto, unfolding(meaning::specs::Call::call))]
 pub fn phase(block: &[u8], work: &mut [u32], out: &mut [u8]) -> Numbers
     ensures number_value { result.number ≡ (call block.now work.old out.old).number }
     ensures second_value { result.second ≡ (call block.now work.old out.old).second }
     ensures work_after { work.new ≡ (call block.now work.old out.old).work }
     ensures out_after { out.new ≡ (call block.now work.old out.old).out }
 {
-    numbers(called(block, false, work, out))
+    told(called(block, false, work, out))
 }
 
 // The same in the all-heterozygous mode: the two haplotypes differ at every column.
+#[tactic(auto, unfolding(meaning::specs::Call::heterozygous_call))]
 pub fn phase_heterozygous(block: &[u8], work: &mut [u32], out: &mut [u8]) -> Numbers
     ensures number_value { result.number ≡ (heterozygous_call block.now work.old out.old).number }
     ensures second_value { result.second ≡ (heterozygous_call block.now work.old out.old).second }
     ensures work_after { work.new ≡ (heterozygous_call block.now work.old out.old).work }
     ensures out_after { out.new ≡ (heterozygous_call block.now work.old out.old).out }
 {
-    numbers(called(block, true, work, out))
+    told(called(block, true, work, out))
 }
 
 // A call that gives the margins too.
@@ -105,7 +118,7 @@ pub fn phase_margins(block: &[u8], work: &mut [u32], out: &mut [u8], margins: &m
     ensures out_after { out.new ≡ (margin_call block.now work.old out.old margins.old).out }
     ensures margins_after { margins.new ≡ (margin_call block.now work.old out.old margins.old).margins }
 {
-    numbers(margined(block, work, out, margins))
+    told(margined(block, work, out, margins))
 }
 
 // A judging of a block.
@@ -124,10 +137,7 @@ pub fn judge(block: &[u8], answer: &[u8], work: &mut [u32]) -> Numbers
     ensures work_after { work.new ≡ (judging block.now answer.now work.old).work }
 {
     match judged(block, answer, work) {
-        Ok(verdict) => Numbers {
-            number: verdict.number(),
-            second: verdict.second(),
-        },
+        Ok(verdict) => verdict.into(),
         Err(refusal) => refusal.into(),
     }
 }
@@ -140,10 +150,7 @@ pub fn convert(block: &[u8], out: &mut [u8]) -> Numbers
     ensures out_after { out.new ≡ (converting block.now out.old).out }
 {
     match convert::convert(block, out) {
-        Ok(()) => Numbers {
-            number: 0,
-            second: 0,
-        },
+        Ok(()) => told(Ok(0)),
         Err(refusal) => refusal.into(),
     }
 }

@@ -100,9 +100,9 @@ fill-requires c =
     let r : c.args.at.t ≤ length c.args.taken.now = c.requires.t_in_bounds.0 in
     let turned = λ (i : ℕ) (k : i < c.from-p.result). rw c.placed.ensures.1 at (c.prepare-s.ensures.by_index_2 i k) in
     let fits = fill_fits _ _ _ _ c.args.listed.now.ready c.args.at.j c.requires.j_lt_m.0 w.result w.ensures g.new.turn turned c.args.at.t c.requires.j_lt_m.1
-    g.new.w c.take_over.new.taken c.args.work.now c.requires.t_in_bounds.1 g.ensures.light_pairs
+    c.take_over.new.taken c.args.work.now c.requires.t_in_bounds.1
     (before_fits _ _ _ _ c.args.listed.now.ready c.args.at.j c.args.at.t c.requires.j_lt_m.0 c.requires.j_lt_m.1 c.args.work.now c.take_over.new.taken (omega arith) taken c.requires.k_bound) in
-    record { p_bound = fits.0; room = fits.1.0; p_in_bounds = fits.1.1 }
+    record { room = fits.0; p_in_bounds = fits.1 }
 
 pub returns : goal.returns
 returns c =

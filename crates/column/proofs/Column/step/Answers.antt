@@ -4,9 +4,9 @@ use lib.Bits.{bit_xor}
 use lib.ListN.{get_or}
 use mathlib.Core.Path.{◌≡◌, ap}
 use Rattle.plain.proofs.Laws.{one_shl}
-use Rattle.column.specs.Walk.{level_at, At}
+use Rattle.column.specs.Walk.{level_in, At}
 use Rattle.column.proofs.Steps.{used-small, digit_below, step_movable, step_at, at-fits, walked_step}
-use Rattle.column.proofs.walk.step.Goals as goal
+use Rattle.column.proofs.Column.step.Goals as goal
 
 pub overflow_add-d : goal.overflow_add-d
 overflow_add-d c =
@@ -14,13 +14,13 @@ overflow_add-d c =
     let small : c.args.d + 1 < 12 = omega (arith, digit_below c.requires, c.requires.walked.at.few) in
     omega (arith, small)
 
-pub offset_bounds-w-d : goal.offset_bounds-w-d
-offset_bounds-w-d c =
+pub offset_bounds-self-d : goal.offset_bounds-self-d
+offset_bounds-self-d c =
     let small : c.args.d + 1 < 12 = omega (arith, digit_below c.requires, c.requires.walked.at.few) in
     omega (arith, small)
 
-pub bounds-w-d : goal.bounds-w-d
-bounds-w-d c =
+pub bounds-self-d : goal.bounds-self-d
+bounds-self-d c =
     let small : c.args.d + 1 < 12 = omega (arith, digit_below c.requires, c.requires.walked.at.few) in
     omega (arith, small)
 
@@ -37,13 +37,13 @@ overflow_add-folded c =
     let small : c.args.d + 1 < 12 = omega (arith, digit_below c.requires, c.requires.walked.at.few) in
     omega (arith, small)
 
-pub offset_bounds-turn-d : goal.offset_bounds-turn-d
-offset_bounds-turn-d c =
+pub offset_bounds-self-d-2 : goal.offset_bounds-self-d-2
+offset_bounds-self-d-2 c =
     let small : c.args.d + 1 < 12 = omega (arith, digit_below c.requires, c.requires.walked.at.few) in
     omega (arith, small)
 
-pub bounds-turn-d : goal.bounds-turn-d
-bounds-turn-d c =
+pub bounds-self-d-2 : goal.bounds-self-d-2
+bounds-self-d-2 c =
     let small : c.args.d + 1 < 12 = omega (arith, digit_below c.requires, c.requires.walked.at.few) in
     omega (arith, small)
 
@@ -52,30 +52,30 @@ entry-requires c =
     let small : c.args.d + 1 < 12 = omega (arith, digit_below c.requires, c.requires.walked.at.few) in
     -- digit d turned, as the code has it, and the walk there
     let turned : bit_xor c.args.x.k (1 * 2 ^ c.args.d % 2 ^ 64) ≡ bit_xor c.args.x.k (2 ^ c.args.d) = ap (bit_xor c.args.x.k) (one_shl c.args.d (omega (arith, small))) in
-    let next : At c.args.w.now c.args.turn.now c.args.c.p (level_at c.args.c.heterozygous c.args.w.now c.args.c.p) c.args.taken.now c.moved-t.result
-    (bit_xor c.args.x.k (1 * 2 ^ c.args.d % 2 ^ 64)) (bit_xor c.args.x.q (get_or c.args.turn.now (c.args.d + 1) 0)) = step_at c.requires _ turned _ c.moved-t.ensures in
+    let next : At c.args.self.now.w.now c.args.self.now.turn.now c.args.self.now.p (level_in c.args.self.now) c.args.self.now.taken.now c.moved-t.result
+    (bit_xor c.args.x.k (1 * 2 ^ c.args.d % 2 ^ 64)) (bit_xor c.args.x.q (get_or c.args.self.now.turn.now (c.args.d + 1) 0)) = step_at c.requires _ turned _ c.moved-t.ensures in
     at-fits next
 
 pub offset_bounds-part-to : goal.offset_bounds-part-to
 offset_bounds-part-to c =
     let small : c.args.d + 1 < 12 = omega (arith, digit_below c.requires, c.requires.walked.at.few) in
     let turned : bit_xor c.args.x.k (1 * 2 ^ c.args.d % 2 ^ 64) ≡ bit_xor c.args.x.k (2 ^ c.args.d) = ap (bit_xor c.args.x.k) (one_shl c.args.d (omega (arith, small))) in
-    let next : At c.args.w.now c.args.turn.now c.args.c.p (level_at c.args.c.heterozygous c.args.w.now c.args.c.p) c.args.taken.now c.moved-t.result
-    (bit_xor c.args.x.k (1 * 2 ^ c.args.d % 2 ^ 64)) (bit_xor c.args.x.q (get_or c.args.turn.now (c.args.d + 1) 0)) = step_at c.requires _ turned _ c.moved-t.ensures in
+    let next : At c.args.self.now.w.now c.args.self.now.turn.now c.args.self.now.p (level_in c.args.self.now) c.args.self.now.taken.now c.moved-t.result
+    (bit_xor c.args.x.k (1 * 2 ^ c.args.d % 2 ^ 64)) (bit_xor c.args.x.q (get_or c.args.self.now.turn.now (c.args.d + 1) 0)) = step_at c.requires _ turned _ c.moved-t.ensures in
     let h = next in omega (arith, h.below, used-small _ h.few)
 
 pub bounds-part-to : goal.bounds-part-to
 bounds-part-to c =
     let small : c.args.d + 1 < 12 = omega (arith, digit_below c.requires, c.requires.walked.at.few) in
     let turned : bit_xor c.args.x.k (1 * 2 ^ c.args.d % 2 ^ 64) ≡ bit_xor c.args.x.k (2 ^ c.args.d) = ap (bit_xor c.args.x.k) (one_shl c.args.d (omega (arith, small))) in
-    let next : At c.args.w.now c.args.turn.now c.args.c.p (level_at c.args.c.heterozygous c.args.w.now c.args.c.p) c.args.taken.now c.moved-t.result
-    (bit_xor c.args.x.k (1 * 2 ^ c.args.d % 2 ^ 64)) (bit_xor c.args.x.q (get_or c.args.turn.now (c.args.d + 1) 0)) = step_at c.requires _ turned _ c.moved-t.ensures in
+    let next : At c.args.self.now.w.now c.args.self.now.turn.now c.args.self.now.p (level_in c.args.self.now) c.args.self.now.taken.now c.moved-t.result
+    (bit_xor c.args.x.k (1 * 2 ^ c.args.d % 2 ^ 64)) (bit_xor c.args.x.q (get_or c.args.self.now.turn.now (c.args.d + 1) 0)) = step_at c.requires _ turned _ c.moved-t.ensures in
     omega (arith, next.below, c.requires.walked.inside)
 
 pub returns : goal.returns
 returns c =
     let small : c.args.d + 1 < 12 = omega (arith, digit_below c.requires, c.requires.walked.at.few) in
     let turned : bit_xor c.args.x.k (1 * 2 ^ c.args.d % 2 ^ 64) ≡ bit_xor c.args.x.k (2 ^ c.args.d) = ap (bit_xor c.args.x.k) (one_shl c.args.d (omega (arith, small))) in
-    let next : At c.args.w.now c.args.turn.now c.args.c.p (level_at c.args.c.heterozygous c.args.w.now c.args.c.p) c.args.taken.now c.moved-t.result
-    (bit_xor c.args.x.k (1 * 2 ^ c.args.d % 2 ^ 64)) (bit_xor c.args.x.q (get_or c.args.turn.now (c.args.d + 1) 0)) = step_at c.requires _ turned _ c.moved-t.ensures in
+    let next : At c.args.self.now.w.now c.args.self.now.turn.now c.args.self.now.p (level_in c.args.self.now) c.args.self.now.taken.now c.moved-t.result
+    (bit_xor c.args.x.k (1 * 2 ^ c.args.d % 2 ^ 64)) (bit_xor c.args.x.q (get_or c.args.self.now.turn.now (c.args.d + 1) 0)) = step_at c.requires _ turned _ c.moved-t.ensures in
     walked_step c.requires _ turned next _ c.entry.ensures

@@ -71,6 +71,7 @@ fn column_by_rule(
         taken,
         heterozygous: at.heterozygous,
     };
+    // document 01 asks for this form: the pass gets its column's entries as a mutable part
     column.fill(&mut work[from..to]);
 }
 

@@ -37,7 +37,7 @@ pub fn carry(part: &[u32], classes: usize, taken: &mut [u32])
         kept.copy_from_slice(part);
         return;
     }
-    // the first two rows at once
+    // the first two rows at once: a copy of the first would have to be read back
     let (first, others) = part.split_at(classes);
     let (second, more) = others.split_at(classes);
     lesser(first, second, kept);

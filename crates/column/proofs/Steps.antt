@@ -149,6 +149,10 @@ module _ {w : List (List ℕ)} {turn level taken part : List ℕ} {p n : ℕ} {s
   pub digit_below : d + 1 < p
   digit_below = omega (arith, h.lowest, lowest_lt 64 (p - 1) n h.some h.below)
 
+  -- which has a read
+  pub has_read : d + 1 < 12
+  has_read = omega (arith, digit_below, h.walked.at.few)
+
   turned_index : bit_xor k (2 ^ d) ≡ gray n
   turned_index =
       let z : n - 1 + 1 ≡ n = omega (arith, h.some) in

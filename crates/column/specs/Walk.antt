@@ -8,6 +8,7 @@ use Rattle.meaning.specs.Charge.{Letter, Sums, charge_of}
 use Rattle.sums.specs.Sums.{array_of, pair_at, LightPairs, sums_with}
 use Rattle.sums.specs.Level.{level_of, raised}
 use Rattle.column.specs.Pass.{Room, entry_at}
+use Rattle.column.specs.declared.Column.{Column}
 
 -- the index of step n
 unfoldable pub gray : ℕ → ℕ
@@ -53,3 +54,13 @@ pub record Turns (w : List (List ℕ)) (turn : List ℕ) (p : ℕ) (level taken 
   pub lowest : d ≡ count_trailing_zeros 64 n
   pub side : from ≡ k / 2 ^ d % 2
   pub walked : Walked w turn p level taken n part s k q
+
+-- the same of a column as the code has it
+abbrev pub level_in : Column → List ℕ
+level_in c = level_at c.heterozygous c.w.now c.p
+
+abbrev pub ColumnWalked : Column → ℕ → List ℕ → List (List ℕ) → ℕ → ℕ → Type 0
+ColumnWalked c n part s k q = Walked c.w.now c.turn.now c.p (level_in c) c.taken.now n part s k q
+
+abbrev pub ColumnTurns : Column → ℕ → List ℕ → List (List ℕ) → ℕ → ℕ → ℕ → ℕ → Type 0
+ColumnTurns c n part s k q d from = Turns c.w.now c.turn.now c.p (level_in c) c.taken.now n part s k q d from

@@ -41,7 +41,8 @@ pub fn raised(s: [[u32; 2]; 2], level: [u32; 2]) -> [[u32; 2]; 2]
     [[s[0][0] + x, s[0][1] + y], [s[1][0] + x, s[1][1] + y]]
 }
 
-// One read changes side: its pair leaves the sums of one side and enters those of the other.
+// One read changes side: its pair leaves the sums of one side and enters those of the other. Document 01 asks for this form, a 2 by 2 array
+// by value.
 pub fn moved(s: [[u32; 2]; 2], w: [u32; 2], from: usize) -> [[u32; 2]; 2]
     requires { (from < 2) × Movable (sums_of s) (pair_at w) (side_of from) }
     ensures { result ≡ array_of (moved_sums (sums_of s) (pair_at w) (side_of from)) }

@@ -15,7 +15,7 @@ use Rattle.meaning.specs.Call.{laid}
 use Rattle.meaning.proofs.Lists.{length_run}
 use Rattle.fold.proofs.Masks.{turn_lt}
 use Rattle.fold.specs.Turn.{starts_before, shared_to, turn_at}
-use Rattle.sums.specs.Sums.{pair_at, pair_of, LightPairs}
+use Rattle.sums.specs.Sums.{pair_at, pair_of}
 use Rattle.column.specs.Pass.{Room, passed}
 use Rattle.column.proofs.Join.{Paired}
 use Rattle.cells.specs.Laid.{Laid}
@@ -107,15 +107,12 @@ module _ (shape : Shape) (reads places lists : List ℕ) (ready : Ready shape re
             small = fits.small;
           }
 
-      pub fill_fits : (t : ℕ) → t ≡ entries M → (w : List (List ℕ)) (taken work : List ℕ) → shape.m * t ≤ length work
-          → LightPairs w p 65535 → TakenFits M j taken
-          → ((p ≤ 12) × LightPairs w p 65535) × (Room turn p taken × (used p ≤ length (take (j * t + t - j * t) (drop (j * t) work))))
-      fill_fits t e w taken work room light fits =
+      pub fill_fits : (t : ℕ) → t ≡ entries M → (taken work : List ℕ) → shape.m * t ≤ length work → TakenFits M j taken
+          → Room turn p taken × (used p ≤ length (take (j * t + t - j * t) (drop (j * t) work)))
+      fill_fits t e taken work room fits =
           let z = column_sizes shape reads places lists ready j t l e in
-          let long : length (take (j * t + t - j * t) (drop (j * t) work)) ≡ t = length-take-le (j * t + t - j * t) (drop (j * t) work) (omega (arith, length-drop (j * t) work)) ∙ omega arith in (
-            ((list-fits j l p q).0, light),
-            (fill_room taken fits, subst (λ (x : ℕ). used p ≤ x) (sym long) (subst (λ (x : ℕ). used x ≤ t) (sym q) z.fits)),
-          )
+          let long : length (take (j * t + t - j * t) (drop (j * t) work)) ≡ t = length-take-le (j * t + t - j * t) (drop (j * t) work) (omega (arith, length-drop (j * t) work)) ∙ omega arith in
+          (fill_room taken fits, subst (λ (x : ℕ). used p ≤ x) (sym long) (subst (λ (x : ℕ). used x ≤ t) (sym q) z.fits))
 
     pub pass_laid : (charged : Sums → ℕ) (t : ℕ) → t ≡ entries M → (w : List (List ℕ)) (turn taken work last : List ℕ) → shape.m * t ≤ length work
         → ((i : ℕ) → i < p → get_or w i [] ≡ pair_of (at (read M (get_or (list_part j) i 0)) j))

@@ -64,7 +64,15 @@ fn column_by_rule(
     take_over(lists, j, t, s, work, taken);
     let from = j * t;
     let to = from + t;
-    column::fill(w, turn, p, taken, at.heterozygous, &mut work[from..to]);
+    let column = column::Column {
+        w,
+        turn,
+        p,
+        taken,
+        heterozygous: at.heterozygous,
+    };
+    // document 01 asks for this form: the pass gets its column's entries as a mutable part
+    column.fill(&mut work[from..to]);
 }
 
 // All columns in turn.

@@ -28,44 +28,23 @@ end_of-requires c = omega (arith, c.from-r.ensures, listed-room c.args.placed.no
 
 pub overflow_sub-e : goal.overflow_sub-e
 overflow_sub-e c =
-    -- and its cell at column j
-    let here : let a = c.args in
-    Here a.placed.now.reads.shape a.placed.now.reads.bytes.now (get_or a.list.now c.loop-i.i 0) a.j
-    c.start_of-a.result c.first_of-f.result c.end_of.result = here_listed c.args.placed.now c.requires c.loop-i.i c.loop-i-test.true _ _ _ _
-    c.from-r.ensures c.start_of-a.ensures c.first_of-f.ensures c.end_of.ensures in
-    omega (arith, here.begun, here.goes_on)
+    let h = here_listed c.args.placed.now c.requires c.loop-i.i c.loop-i-test.true _ _ _ _ c.from-r.ensures c.start_of-a.ensures c.first_of-f.ensures c.end_of.ensures in omega (arith, h.begun, h.goes_on)
 
 pub overflow_mul-e : goal.overflow_mul-e
 overflow_mul-e c =
-    let here : let a = c.args in
-    Here a.placed.now.reads.shape a.placed.now.reads.bytes.now (get_or a.list.now c.loop-i.i 0) a.j
-    c.start_of-a.result c.first_of-f.result c.end_of.result = here_listed c.args.placed.now c.requires c.loop-i.i c.loop-i-test.true _ _ _ _
-    c.from-r.ensures c.start_of-a.ensures c.first_of-f.ensures c.end_of.ensures in
-    omega (arith, here.inside)
+    omega (arith, (here_listed c.args.placed.now c.requires c.loop-i.i c.loop-i-test.true _ _ _ _ c.from-r.ensures c.start_of-a.ensures c.first_of-f.ensures c.end_of.ensures).inside)
 
 pub overflow_add-e : goal.overflow_add-e
 overflow_add-e c =
-    let here : let a = c.args in
-    Here a.placed.now.reads.shape a.placed.now.reads.bytes.now (get_or a.list.now c.loop-i.i 0) a.j
-    c.start_of-a.result c.first_of-f.result c.end_of.result = here_listed c.args.placed.now c.requires c.loop-i.i c.loop-i-test.true _ _ _ _
-    c.from-r.ensures c.start_of-a.ensures c.first_of-f.ensures c.end_of.ensures in
-    omega (arith, here.inside)
+    omega (arith, (here_listed c.args.placed.now c.requires c.loop-i.i c.loop-i-test.true _ _ _ _ c.from-r.ensures c.start_of-a.ensures c.first_of-f.ensures c.end_of.ensures).inside)
 
 pub slice_bounds-weights-end : goal.slice_bounds-weights-end
 slice_bounds-weights-end c =
-    let here : let a = c.args in
-    Here a.placed.now.reads.shape a.placed.now.reads.bytes.now (get_or a.list.now c.loop-i.i 0) a.j
-    c.start_of-a.result c.first_of-f.result c.end_of.result = here_listed c.args.placed.now c.requires c.loop-i.i c.loop-i-test.true _ _ _ _
-    c.from-r.ensures c.start_of-a.ensures c.first_of-f.ensures c.end_of.ensures in
-    omega (arith, here.inside)
+    omega (arith, (here_listed c.args.placed.now c.requires c.loop-i.i c.loop-i-test.true _ _ _ _ c.from-r.ensures c.start_of-a.ensures c.first_of-f.ensures c.end_of.ensures).inside)
 
 pub overflow_sub-j : goal.overflow_sub-j
 overflow_sub-j c =
-    let here : let a = c.args in
-    Here a.placed.now.reads.shape a.placed.now.reads.bytes.now (get_or a.list.now c.loop-i.i 0) a.j
-    c.start_of-a.result c.first_of-f.result c.end_of.result = here_listed c.args.placed.now c.requires c.loop-i.i c.loop-i-test.true _ _ _ _
-    c.from-r.ensures c.start_of-a.ensures c.first_of-f.ensures c.end_of.ensures in
-    here.begun
+    (here_listed c.args.placed.now c.requires c.loop-i.i c.loop-i-test.true _ _ _ _ c.from-r.ensures c.start_of-a.ensures c.first_of-f.ensures c.end_of.ensures).begun
 
 pub weights-x-requires : goal.weights-x-requires
 weights-x-requires c =

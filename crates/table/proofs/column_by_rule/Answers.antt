@@ -6,6 +6,9 @@ use lib.ListN.{length}
 use Rattle.meaning.specs.Letters.{charge_in, mode_of}
 use Rattle.meaning.specs.Call.{laid}
 use Rattle.layout.specs.Reads.{matrix_in}
+use Rattle.layout.specs.Matrices.{matrix_of}
+use Rattle.layout.specs.declared.reads.Listed.{Listed}
+use Rattle.meaning.specs.Active.{entries}
 use Rattle.layout.specs.declared.reads.Reads.{Reads}
 use Rattle.table.specs.Taken.{shared_before, TakenBefore}
 use Rattle.table.proofs.Sizes.{ColumnSizes, column_sizes}
@@ -14,46 +17,33 @@ use Rattle.table.proofs.Columns.{cells-laid, shared_are, fill_fits, pass_laid}
 use Rattle.table.proofs.Filled.{before_fits, before_over}
 use Rattle.table.proofs.column_by_rule.Goals as goal
 
+-- the plain numbers of column j
+sizes : (l : Listed) {j t : ℕ} → (j < l.reads.shape.m) × (t ≡ entries (matrix_of l.reads)) → ColumnSizes l.reads.shape l.reads.bytes.now l.places.now l.lists.now l.ready j t
+sizes l {j} {t} h = column_sizes _ _ _ _ l.ready j t h.0 h.1
+
 pub overflow_mul-a : goal.overflow_mul-a
-overflow_mul-a c =
-    -- the plain numbers of column j
-    let sizes : ColumnSizes c.args.listed.now.reads.shape c.args.listed.now.reads.bytes.now c.args.listed.now.places.now c.args.listed.now.lists.now c.args.listed.now.ready c.args.at.j c.args.at.t = column_sizes _ _ _ _ c.args.listed.now.ready c.args.at.j c.args.at.t c.requires.j_lt_m.0 c.requires.j_lt_m.1 in
-    omega (arith, sizes)
+overflow_mul-a c = omega (arith, sizes c.args.listed.now c.requires.j_lt_m)
 
 pub overflow_add-a : goal.overflow_add-a
-overflow_add-a c =
-    let sizes : ColumnSizes c.args.listed.now.reads.shape c.args.listed.now.reads.bytes.now c.args.listed.now.places.now c.args.listed.now.lists.now c.args.listed.now.ready c.args.at.j c.args.at.t = column_sizes _ _ _ _ c.args.listed.now.ready c.args.at.j c.args.at.t c.requires.j_lt_m.0 c.requires.j_lt_m.1 in
-    omega (arith, sizes)
+overflow_add-a c = omega (arith, sizes c.args.listed.now c.requires.j_lt_m)
 
 pub overflow_add-e : goal.overflow_add-e
-overflow_add-e c =
-    let sizes : ColumnSizes c.args.listed.now.reads.shape c.args.listed.now.reads.bytes.now c.args.listed.now.places.now c.args.listed.now.lists.now c.args.listed.now.ready c.args.at.j c.args.at.t = column_sizes _ _ _ _ c.args.listed.now.ready c.args.at.j c.args.at.t c.requires.j_lt_m.0 c.requires.j_lt_m.1 in
-    omega (arith, sizes)
+overflow_add-e c = omega (arith, sizes c.args.listed.now c.requires.j_lt_m)
 
 pub offset_bounds-lists-a : goal.offset_bounds-lists-a
-offset_bounds-lists-a c =
-    let sizes : ColumnSizes c.args.listed.now.reads.shape c.args.listed.now.reads.bytes.now c.args.listed.now.places.now c.args.listed.now.lists.now c.args.listed.now.ready c.args.at.j c.args.at.t = column_sizes _ _ _ _ c.args.listed.now.ready c.args.at.j c.args.at.t c.requires.j_lt_m.0 c.requires.j_lt_m.1 in
-    omega (arith, sizes)
+offset_bounds-lists-a c = omega (arith, sizes c.args.listed.now c.requires.j_lt_m)
 
 pub slice_bounds-list-end : goal.slice_bounds-list-end
-slice_bounds-list-end c =
-    let sizes : ColumnSizes c.args.listed.now.reads.shape c.args.listed.now.reads.bytes.now c.args.listed.now.places.now c.args.listed.now.lists.now c.args.listed.now.ready c.args.at.j c.args.at.t = column_sizes _ _ _ _ c.args.listed.now.ready c.args.at.j c.args.at.t c.requires.j_lt_m.0 c.requires.j_lt_m.1 in
-    omega (arith, sizes)
+slice_bounds-list-end c = omega (arith, sizes c.args.listed.now c.requires.j_lt_m)
 
 pub overflow_mul-j : goal.overflow_mul-j
-overflow_mul-j c =
-    let sizes : ColumnSizes c.args.listed.now.reads.shape c.args.listed.now.reads.bytes.now c.args.listed.now.places.now c.args.listed.now.lists.now c.args.listed.now.ready c.args.at.j c.args.at.t = column_sizes _ _ _ _ c.args.listed.now.ready c.args.at.j c.args.at.t c.requires.j_lt_m.0 c.requires.j_lt_m.1 in
-    omega (arith, sizes)
+overflow_mul-j c = omega (arith, sizes c.args.listed.now c.requires.j_lt_m)
 
 pub offset_bounds-lists-j : goal.offset_bounds-lists-j
-offset_bounds-lists-j c =
-    let sizes : ColumnSizes c.args.listed.now.reads.shape c.args.listed.now.reads.bytes.now c.args.listed.now.places.now c.args.listed.now.lists.now c.args.listed.now.ready c.args.at.j c.args.at.t = column_sizes _ _ _ _ c.args.listed.now.ready c.args.at.j c.args.at.t c.requires.j_lt_m.0 c.requires.j_lt_m.1 in
-    omega (arith, sizes)
+offset_bounds-lists-j c = omega (arith, sizes c.args.listed.now c.requires.j_lt_m)
 
 pub bounds-lists-j : goal.bounds-lists-j
-bounds-lists-j c =
-    let sizes : ColumnSizes c.args.listed.now.reads.shape c.args.listed.now.reads.bytes.now c.args.listed.now.places.now c.args.listed.now.lists.now c.args.listed.now.ready c.args.at.j c.args.at.t = column_sizes _ _ _ _ c.args.listed.now.ready c.args.at.j c.args.at.t c.requires.j_lt_m.0 c.requires.j_lt_m.1 in
-    omega (arith, sizes)
+bounds-lists-j c = omega (arith, sizes c.args.listed.now c.requires.j_lt_m)
 
 pub prepare-s-requires : goal.prepare-s-requires
 prepare-s-requires c =
@@ -69,24 +59,16 @@ take_over-requires c =
     c.requires.t_in_bounds.0 c.requires.t_in_bounds.1
 
 pub overflow_mul-from : goal.overflow_mul-from
-overflow_mul-from c =
-    let sizes : ColumnSizes c.args.listed.now.reads.shape c.args.listed.now.reads.bytes.now c.args.listed.now.places.now c.args.listed.now.lists.now c.args.listed.now.ready c.args.at.j c.args.at.t = column_sizes _ _ _ _ c.args.listed.now.ready c.args.at.j c.args.at.t c.requires.j_lt_m.0 c.requires.j_lt_m.1 in
-    omega (arith, sizes)
+overflow_mul-from c = omega (arith, sizes c.args.listed.now c.requires.j_lt_m)
 
 pub overflow_add-to : goal.overflow_add-to
-overflow_add-to c =
-    let sizes : ColumnSizes c.args.listed.now.reads.shape c.args.listed.now.reads.bytes.now c.args.listed.now.places.now c.args.listed.now.lists.now c.args.listed.now.ready c.args.at.j c.args.at.t = column_sizes _ _ _ _ c.args.listed.now.ready c.args.at.j c.args.at.t c.requires.j_lt_m.0 c.requires.j_lt_m.1 in
-    omega (arith, sizes)
+overflow_add-to c = omega (arith, sizes c.args.listed.now c.requires.j_lt_m)
 
 pub offset_bounds-work-from : goal.offset_bounds-work-from
-offset_bounds-work-from c =
-    let sizes : ColumnSizes c.args.listed.now.reads.shape c.args.listed.now.reads.bytes.now c.args.listed.now.places.now c.args.listed.now.lists.now c.args.listed.now.ready c.args.at.j c.args.at.t = column_sizes _ _ _ _ c.args.listed.now.ready c.args.at.j c.args.at.t c.requires.j_lt_m.0 c.requires.j_lt_m.1 in
-    omega (arith, sizes)
+offset_bounds-work-from c = omega (arith, sizes c.args.listed.now c.requires.j_lt_m)
 
 pub slice_bounds-fill-end : goal.slice_bounds-fill-end
-slice_bounds-fill-end c =
-    let sizes : ColumnSizes c.args.listed.now.reads.shape c.args.listed.now.reads.bytes.now c.args.listed.now.places.now c.args.listed.now.lists.now c.args.listed.now.ready c.args.at.j c.args.at.t = column_sizes _ _ _ _ c.args.listed.now.ready c.args.at.j c.args.at.t c.requires.j_lt_m.0 c.requires.j_lt_m.1 in
-    omega (arith, sizes, c.requires.t_in_bounds.1)
+slice_bounds-fill-end c = omega (arith, sizes c.args.listed.now c.requires.j_lt_m, c.requires.t_in_bounds.1)
 
 pub fill-requires : goal.fill-requires
 fill-requires c =
@@ -100,9 +82,9 @@ fill-requires c =
     let r : c.args.at.t ≤ length c.args.taken.now = c.requires.t_in_bounds.0 in
     let turned = λ (i : ℕ) (k : i < c.from-p.result). rw c.placed.ensures.1 at (c.prepare-s.ensures.by_index_2 i k) in
     let fits = fill_fits _ _ _ _ c.args.listed.now.ready c.args.at.j c.requires.j_lt_m.0 w.result w.ensures g.new.turn turned c.args.at.t c.requires.j_lt_m.1
-    g.new.w c.take_over.new.taken c.args.work.now c.requires.t_in_bounds.1 g.ensures.light_pairs
+    c.take_over.new.taken c.args.work.now c.requires.t_in_bounds.1
     (before_fits _ _ _ _ c.args.listed.now.ready c.args.at.j c.args.at.t c.requires.j_lt_m.0 c.requires.j_lt_m.1 c.args.work.now c.take_over.new.taken (omega arith) taken c.requires.k_bound) in
-    record { p_bound = fits.0; room = fits.1.0; p_in_bounds = fits.1.1 }
+    record { room = fits.0; p_in_bounds = fits.1 }
 
 pub returns : goal.returns
 returns c =

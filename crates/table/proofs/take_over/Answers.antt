@@ -48,71 +48,54 @@ returns-then-j-eq0 c =
     handed_none _ c.args.j _ _ _ _ c.if-j-eq0.true (get_or-set_same c.args.taken.now 0 0 0 (omega (arith, some)))
 
 pub overflow_mul-i : goal.overflow_mul-i
-overflow_mul-i c =
-    let before : let a = c.args in Before a.lists.now a.j a.t a.s a.work.now = before_column c.requires c.if-j-eq0.false in
-    omega (arith, before)
+overflow_mul-i c = omega (arith, before_column c.requires c.if-j-eq0.false)
 
 pub offset_bounds-lists-i : goal.offset_bounds-lists-i
-offset_bounds-lists-i c =
-    let before : let a = c.args in Before a.lists.now a.j a.t a.s a.work.now = before_column c.requires c.if-j-eq0.false in
-    omega (arith, before)
+offset_bounds-lists-i c = omega (arith, before_column c.requires c.if-j-eq0.false)
 
 pub bounds-lists-i : goal.bounds-lists-i
-bounds-lists-i c =
-    let before : let a = c.args in Before a.lists.now a.j a.t a.s a.work.now = before_column c.requires c.if-j-eq0.false in
-    omega (arith, before)
+bounds-lists-i c = omega (arith, before_column c.requires c.if-j-eq0.false)
 
 pub overflow_mul-from : goal.overflow_mul-from
-overflow_mul-from c =
-    let before : let a = c.args in Before a.lists.now a.j a.t a.s a.work.now = before_column c.requires c.if-j-eq0.false in
-    omega (arith, before)
+overflow_mul-from c = omega (arith, before_column c.requires c.if-j-eq0.false)
 
 pub entries-requires : goal.entries-requires
-entries-requires c =
-    let before : let a = c.args in Before a.lists.now a.j a.t a.s a.work.now = before_column c.requires c.if-j-eq0.false in
-    omega (arith, c.from-q.ensures, before)
+entries-requires c = omega (arith, c.from-q.ensures, before_column c.requires c.if-j-eq0.false)
 
 pub overflow_add-to : goal.overflow_add-to
 overflow_add-to c =
-    let before : let a = c.args in Before a.lists.now a.j a.t a.s a.work.now = before_column c.requires c.if-j-eq0.false in
     -- what entries gives fits the table
-    let indexed : used c.from-q.result ≤ c.args.t = subst (λ (x : ℕ). used x ≤ c.args.t) (sym c.from-q.ensures) before.fits in
+    let indexed : used c.from-q.result ≤ c.args.t = subst (λ (x : ℕ). used x ≤ c.args.t) (sym c.from-q.ensures) (before_column c.requires c.if-j-eq0.false).fits in
     let used-fits : c.entries.result ≤ c.args.t = subst (λ (x : ℕ). x ≤ c.args.t) (sym c.entries.ensures) indexed in
-    omega (arith, before, used-fits)
+    omega (arith, before_column c.requires c.if-j-eq0.false, used-fits)
 
 pub offset_bounds-work-from : goal.offset_bounds-work-from
 offset_bounds-work-from c =
-    let before : let a = c.args in Before a.lists.now a.j a.t a.s a.work.now = before_column c.requires c.if-j-eq0.false in
-    let indexed : used c.from-q.result ≤ c.args.t = subst (λ (x : ℕ). used x ≤ c.args.t) (sym c.from-q.ensures) before.fits in
+    let indexed : used c.from-q.result ≤ c.args.t = subst (λ (x : ℕ). used x ≤ c.args.t) (sym c.from-q.ensures) (before_column c.requires c.if-j-eq0.false).fits in
     let used-fits : c.entries.result ≤ c.args.t = subst (λ (x : ℕ). x ≤ c.args.t) (sym c.entries.ensures) indexed in
-    omega (arith, before, used-fits)
+    omega (arith, before_column c.requires c.if-j-eq0.false, used-fits)
 
 pub slice_bounds-carry-end : goal.slice_bounds-carry-end
 slice_bounds-carry-end c =
-    let before : let a = c.args in Before a.lists.now a.j a.t a.s a.work.now = before_column c.requires c.if-j-eq0.false in
-    let indexed : used c.from-q.result ≤ c.args.t = subst (λ (x : ℕ). used x ≤ c.args.t) (sym c.from-q.ensures) before.fits in
+    let indexed : used c.from-q.result ≤ c.args.t = subst (λ (x : ℕ). used x ≤ c.args.t) (sym c.from-q.ensures) (before_column c.requires c.if-j-eq0.false).fits in
     let used-fits : c.entries.result ≤ c.args.t = subst (λ (x : ℕ). x ≤ c.args.t) (sym c.entries.ensures) indexed in
-    omega (arith, before, used-fits)
+    omega (arith, before_column c.requires c.if-j-eq0.false, used-fits)
 
 pub entries-requires-2 : goal.entries-requires-2
-entries-requires-2 c =
-    let before : let a = c.args in Before a.lists.now a.j a.t a.s a.work.now = before_column c.requires c.if-j-eq0.false in
-    omega (arith, before)
+entries-requires-2 c = omega (arith, before_column c.requires c.if-j-eq0.false)
 
 pub carry-requires : goal.carry-requires
 carry-requires c =
-    let before : let a = c.args in Before a.lists.now a.j a.t a.s a.work.now = before_column c.requires c.if-j-eq0.false in
-    let indexed : used c.from-q.result ≤ c.args.t = subst (λ (x : ℕ). used x ≤ c.args.t) (sym c.from-q.ensures) before.fits in
-    let b = before in
+    let indexed : used c.from-q.result ≤ c.args.t = subst (λ (x : ℕ). used x ≤ c.args.t) (sym c.from-q.ensures) (before_column c.requires c.if-j-eq0.false).fits in
+    let b = before_column c.requires c.if-j-eq0.false in
     let fits = carry_fits (c.args.j - 1) c.args.t c.args.work.now b.written c.from-q.result c.entries.result c.args.s c.entries-2.result
     c.entries.ensures c.entries-2.ensures (le_trans b.shared (le_of_eq (sym c.from-q.ensures))) indexed c.args.taken.now c.requires.room in
     record { classes_nonzero = fits.0; part_nonzero = fits.1 }
 
 pub returns : goal.returns
 returns c =
-    let before : let a = c.args in Before a.lists.now a.j a.t a.s a.work.now = before_column c.requires c.if-j-eq0.false in
-    let indexed : used c.from-q.result ≤ c.args.t = subst (λ (x : ℕ). used x ≤ c.args.t) (sym c.from-q.ensures) before.fits in
-    let b = before in
+    let indexed : used c.from-q.result ≤ c.args.t = subst (λ (x : ℕ). used x ≤ c.args.t) (sym c.from-q.ensures) (before_column c.requires c.if-j-eq0.false).fits in
+    let b = before_column c.requires c.if-j-eq0.false in
     let q = c.from-q.ensures in
     handed_next _ c.args.j c.args.t c.args.s _ _ c.if-j-eq0.false
     (λ g l. handed_on (c.args.j - 1) c.args.t c.args.work.now b.written c.from-q.result c.entries.result c.args.s c.entries-2.result

@@ -10,7 +10,7 @@ ghost use Rattle.meaning.specs.Answer.{division_of};
 ghost use Rattle.meaning.specs.Margins.{distance};
 ghost use Rattle.sums.specs.Sums.{sums_of, array_of, Small, pair_at};
 ghost use Rattle.tally.specs.Tally.{Tallied};
-ghost use Rattle.letters.specs.Lettered.{Lettered};
+ghost use Rattle.letters.specs.Lettered.{Lettered, column_parts};
 
 // How far apart the two sums are that each side's letter is chosen from.
 #[derive(Clone, Copy)]
@@ -28,6 +28,19 @@ pub struct Letters {
     pub margins: Margins,
 }
 
+// A part of the tallies of column j, by side: that of the entries with letter 1, then that of those with letter 0.
+fn parts_at<F: Fn(u32) -> u32>(tally: &[u32], j: usize, part: F) -> [[u32; 2]; 2]
+    requires callable { F.IsAlwaysCallable part }
+    requires inside { 4 * j + 4 ≤ length tally.now }
+    ensures { (f : ℕ → ℕ) → ((x y : ℕ) → F.post part x y → y ≡ f x) → result ≡ column_parts f tally.now j }
+{
+    let k = 4 * j;
+    [
+        [part(tally[k + 1]), part(tally[k])],
+        [part(tally[k + 3]), part(tally[k + 2])],
+    ]
+}
+
 // The four sums of column j: a side's W0 is the weight of its entries with letter 1, its W1 of those with letter 0.
 pub fn sums(tally: &[u32], j: usize) -> [[u32; 2]; 2]
     requires { 4 * j + 4 ≤ length tally.now }
@@ -35,11 +48,7 @@ pub fn sums(tally: &[u32], j: usize) -> [[u32; 2]; 2]
         → result ≡ array_of (W M (division_of sides) j) }
     ensures small { Small (sums_of result) }
 {
-    let k = 4 * j;
-    [
-        [tally[k + 1] % 1048576, tally[k] % 1048576],
-        [tally[k + 3] % 1048576, tally[k + 2] % 1048576],
-    ]
+    parts_at(tally, j, |x| x % 1048576)
 }
 
 // The two sums that each side's letter is chosen from: its own, or where the haplotypes differ those of the column, 0 on the side first.
@@ -113,9 +122,9 @@ pub fn letters_at(tally: &[u32], j: usize, heterozygous: bool) -> Letters
     let l = letters_of(c, heterozygous);
     let f = reported(c[0][0], c[0][1]);
     let g = reported(c[1][0], c[1][1]);
-    let k = 4 * j;
-    let x = against([tally[k + 1] / 1048576, tally[k] / 1048576], l[0]);
-    let y = against([tally[k + 3] / 1048576, tally[k + 2] / 1048576], l[1]);
+    let n = parts_at(tally, j, |x| x / 1048576);
+    let x = against(n[0], l[0]);
+    let y = against(n[1], l[1]);
     Letters {
         first: f,
         second: g,

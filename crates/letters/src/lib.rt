@@ -73,7 +73,7 @@ fn letter(w0: u32, w1: u32) -> u8
 }
 
 // The letters of both sides, by what they are chosen from; where the haplotypes differ the second is the other letter.
-#[tactic(auto, using(crate::proofs::Sides::letters_crossed, crate::proofs::Sides::letters_own))]
+#[tactic(auto, using(crate::proofs::Sides::letters_crossed))]
 fn letters_of(c: [[u32; 2]; 2], heterozygous: bool) -> [u8; 2]
     ensures { (w : Sums) → c ≡ array_of ((mode_of heterozygous).choice w)
         → result ≡ bit ((mode_of heterozygous).letter w false) ∷ bit ((mode_of heterozygous).letter w true) ∷ [] }

@@ -12,7 +12,8 @@ ghost use Rattle.sums.specs.Sums.{sums_of, array_of, Small, pair_at};
 ghost use Rattle.tally.specs.Tally.{Tallied};
 ghost use Rattle.letters.specs.Lettered.{Lettered, column_parts};
 
-// How far apart the two sums are that each side's letter is chosen from.
+// How far apart the two sums are that each side's letter is chosen from. By name, as the documents name the haplotypes: who writes them
+// writes each at a place of its own, so an array by side is no plainer.
 #[derive(Clone, Copy)]
 pub struct Margins {
     pub first: u32,

@@ -50,7 +50,7 @@ fn side_of(list: &[u16], i: usize, sides: &[u8]) -> usize
     usize::from(sides[usize::from(list[i])])
 }
 
-// An index of i reads, and the digit of the next one.
+// An index of i reads, and the digit of the next one; document 01 asks for shifts here.
 fn class(low: usize, digit: usize, i: usize) -> usize
     requires { (0 < i) × (i < 12) × (low < used i) × (digit ≤ 1) }
     ensures { (result ≡ low + digit * 2 ^ (i - 1)) × (result < 2 ^ i) }

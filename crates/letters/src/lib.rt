@@ -10,9 +10,10 @@ ghost use Rattle.meaning.specs.Answer.{division_of};
 ghost use Rattle.meaning.specs.Margins.{distance};
 ghost use Rattle.sums.specs.Sums.{sums_of, array_of, Small, pair_at};
 ghost use Rattle.tally.specs.Tally.{Tallied};
-ghost use Rattle.letters.specs.Lettered.{Lettered};
+ghost use Rattle.letters.specs.Lettered.{Lettered, column_parts};
 
-// How far apart the two sums are that each side's letter is chosen from.
+// How far apart the two sums are that each side's letter is chosen from. By name, as the documents name the haplotypes: who writes them
+// writes each at a place of its own, so an array by side is no plainer.
 #[derive(Clone, Copy)]
 pub struct Margins {
     pub first: u32,
@@ -28,6 +29,19 @@ pub struct Letters {
     pub margins: Margins,
 }
 
+// A part of the tallies of column j, by side: that of the entries with letter 1, then that of those with letter 0.
+fn parts_at<F: Fn(u32) -> u32>(tally: &[u32], j: usize, part: F) -> [[u32; 2]; 2]
+    requires callable { F.IsAlwaysCallable part }
+    requires inside { 4 * j + 4 ≤ length tally.now }
+    ensures { (f : ℕ → ℕ) → ((x y : ℕ) → F.post part x y → y ≡ f x) → result ≡ column_parts f tally.now j }
+{
+    let k = 4 * j;
+    [
+        [part(tally[k + 1]), part(tally[k])],
+        [part(tally[k + 3]), part(tally[k + 2])],
+    ]
+}
+
 // The four sums of column j: a side's W0 is the weight of its entries with letter 1, its W1 of those with letter 0.
 pub fn sums(tally: &[u32], j: usize) -> [[u32; 2]; 2]
     requires { 4 * j + 4 ≤ length tally.now }
@@ -35,11 +49,7 @@ pub fn sums(tally: &[u32], j: usize) -> [[u32; 2]; 2]
         → result ≡ array_of (W M (division_of sides) j) }
     ensures small { Small (sums_of result) }
 {
-    let k = 4 * j;
-    [
-        [tally[k + 1] % 1048576, tally[k] % 1048576],
-        [tally[k + 3] % 1048576, tally[k + 2] % 1048576],
-    ]
+    parts_at(tally, j, |x| x % 1048576)
 }
 
 // The two sums that each side's letter is chosen from: its own, or where the haplotypes differ those of the column, 0 on the side first.
@@ -64,7 +74,7 @@ fn letter(w0: u32, w1: u32) -> u8
 }
 
 // The letters of both sides, by what they are chosen from; where the haplotypes differ the second is the other letter.
-#[tactic(auto, using(crate::proofs::Sides::letters_crossed, crate::proofs::Sides::letters_own))]
+#[tactic(auto, using(crate::proofs::Sides::letters_crossed))]
 fn letters_of(c: [[u32; 2]; 2], heterozygous: bool) -> [u8; 2]
     ensures { (w : Sums) → c ≡ array_of ((mode_of heterozygous).choice w)
         → result ≡ bit ((mode_of heterozygous).letter w false) ∷ bit ((mode_of heterozygous).letter w true) ∷ [] }
@@ -113,9 +123,9 @@ pub fn letters_at(tally: &[u32], j: usize, heterozygous: bool) -> Letters
     let l = letters_of(c, heterozygous);
     let f = reported(c[0][0], c[0][1]);
     let g = reported(c[1][0], c[1][1]);
-    let k = 4 * j;
-    let x = against([tally[k + 1] / 1048576, tally[k] / 1048576], l[0]);
-    let y = against([tally[k + 3] / 1048576, tally[k + 2] / 1048576], l[1]);
+    let n = parts_at(tally, j, |x| x / 1048576);
+    let x = against(n[0], l[0]);
+    let y = against(n[1], l[1]);
     Letters {
         first: f,
         second: g,

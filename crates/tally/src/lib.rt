@@ -12,7 +12,7 @@ ghost use Rattle.layout.specs.Places.{read_from};
 ghost use Rattle.sums.specs.Sums.{side_of};
 ghost use Rattle.tally.specs.Tally.{unit, place, Tallied, ReadAdded};
 
-// What a cell adds to its tally: one entry and its weight. A hole has no weight, and adds nothing.
+// What a cell adds to its tally: one entry and its weight. A hole has no weight, and adds nothing. No branch, for the loop below is hot.
 fn added(letter: usize, weight: u32) -> u32
     requires { (letter ≤ 2) × (weight ≤ 65535) }
     ensures { result ≡ weight + (1 - letter / 2) * unit }
@@ -68,6 +68,7 @@ pub fn tally(placed: &layout::Placed, sides: &[u8], tally: &mut [u32])
         let f = layout::first_of(placed.places, r);
         let t = layout::end_of(placed.places, r);
         let e = s + shape.size * (t - f);
+        // A read's cells are a part of the block, as document 01 asks.
         let cells = &placed.reads.bytes[s..e];
         tally_read(shape, cells, f, t, side_of(sides[r]), tally);
     }

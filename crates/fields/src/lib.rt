@@ -105,6 +105,11 @@ impl Bytes {
         &self.room[..self.size]
     }
 
+    // The whole room.
+    pub fn room(&self) -> &[u8] {
+        &self.room
+    }
+
     // The byte at a place of the room.
     pub fn byte(&self, at: usize) -> usize
         ensures { result ≤ 255 }
@@ -128,6 +133,12 @@ impl Bytes {
 
     pub fn put_four(&mut self, at: usize, x: usize) {
         put_four(&mut self.room, at, x);
+    }
+
+    pub fn swap(&mut self, a: usize, b: usize) {
+        if a < 8192 && b < 8192 {
+            self.room.swap(a, b);
+        }
     }
 
     // As many bytes of the room.

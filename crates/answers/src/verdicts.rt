@@ -76,7 +76,10 @@ impl<'a> Answer<'a> {
     pub fn weight(&self, j: usize, side: usize, letter: usize) -> usize {
         Reads::of(self.block)
             .filter(|read| byte(self.bytes, read.number.wrapping_add(17)) == side)
-            .fold(0, |total: usize, read| total.wrapping_add(weight_of(read, j, letter)))
+            .fold(
+                0,
+                |total: usize, read| total.wrapping_add(weight_of(read, j, letter)),
+            )
     }
 
     // A side's letter at column j.
@@ -116,7 +119,11 @@ impl<'a> Answer<'a> {
 
     // Whether one of so many bytes from a place on is above the most.
     fn is_above(&self, from: usize, count: usize, most: u8) -> bool {
-        self.bytes.iter().skip(from).take(count).any(|mark| *mark > most)
+        self.bytes
+            .iter()
+            .skip(from)
+            .take(count)
+            .any(|mark| *mark > most)
     }
 
     // The verdicts 50 to 52.

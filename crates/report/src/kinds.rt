@@ -27,9 +27,16 @@ pub fn of_each_kind<F: Fn(&[u8], &mut Chance, &mut Tally)>(call: &str, all: &mut
 {
     let mut chance = Chance::new(20150601);
     for kind in &kinds() {
-        of_kind(call, kind.name, kind.blocks, &mut chance, all, |chance, tally| {
-            let block = kind.block(chance);
-            trial(block.as_slice(), chance, tally);
-        });
+        of_kind(
+            call,
+            kind.name,
+            kind.blocks,
+            &mut chance,
+            all,
+            |chance, tally| {
+                let block = kind.block(chance);
+                trial(block.as_slice(), chance, tally);
+            },
+        );
     }
 }

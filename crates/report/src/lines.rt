@@ -46,7 +46,12 @@ impl Tally {
     }
 
     // One more difference, of the call that was tried last, and its line, above that of its kind: the first eight get one.
-    pub fn differs<W: Display + Drop, D: Display + Drop>(&mut self, what: W, found: D, expected: D) {
+    pub fn differs<W: Display + Drop, D: Display + Drop>(
+        &mut self,
+        what: W,
+        found: D,
+        expected: D,
+    ) {
         self.differences = self.differences.wrapping_add(1);
         if self.differences <= 8 {
             let tried = self.tried;
@@ -94,7 +99,12 @@ impl Display for Outcome {
 
 impl Display for Tally {
     fn fmt<W: fmt::Write>(&self, f: &mut fmt::Formatter<W>) -> fmt::Result {
-        let Tally { converted, tried, differences, .. } = *self;
+        let Tally {
+            converted,
+            tried,
+            differences,
+            ..
+        } = *self;
         write!(f, "{tried} tried")?;
         for (number, count) in self.counts.iter().enumerate() {
             if *count > 0 {

@@ -31,7 +31,13 @@ pub fn same_items<T: Copy + PartialEq + Display + Drop>(
 }
 
 // Both numbers, every work entry and every output byte of a call that phases.
-pub fn same_call(found: Numbers, expected: Numbers, held: &Held, other: &Held, tally: &mut Tally) -> bool {
+pub fn same_call(
+    found: Numbers,
+    expected: Numbers,
+    held: &Held,
+    other: &Held,
+    tally: &mut Tally,
+) -> bool {
     same_numbers(found, expected, tally)
         && same_items("work entry", &held.work, &other.work, tally)
         && same_items("output byte", &held.out, &other.out, tally)

@@ -1,13 +1,14 @@
 // What a builder may answer to a block: ours, another honest answer, or a false one.
 ghost use Rattle.std.specs.Prelude.{◌≤◌};
 
-use crate::verdicts::{Answer, letter_place};
+use crate::marks::Marks;
+use crate::verdicts::Answer;
 use cases::damage::{alter_byte, alter_word, cut, longer};
 use cases::random::Chance;
 use exhaustive::charge::Mode;
 use exhaustive::rooms::{Held, Rooms};
 use exhaustive::solver::solve;
-use fields::{Bytes, low, word};
+use fields::{Bytes, low};
 use std::cmp::Ordering;
 
 // Sound answers, and those that state another cost, flip count or mark.
@@ -30,15 +31,10 @@ pub enum Kind {
 }
 
 // A number below the limit; 0 if there is none.
-fn pick(chance: &mut Chance, limit: usize) -> usize {
-    if limit == 0 { 0 } else { chance.below(limit) }
-}
-
-// The bytes of an answer with these counts; no more than there is room for.
-fn size_of(n: usize, m: usize) -> usize
-    ensures { result ≤ 8192 }
+fn pick(chance: &mut Chance, limit: usize) -> usize
+    ensures { result ≤ limit }
 {
-    n.wrapping_add(17).wrapping_add(m.wrapping_mul(2)).min(8192)
+    if limit == 0 { 0 } else { chance.below(limit) }
 }
 
 // The exhaustive solver's answer, of so many bytes; zeros where the block is refused.
@@ -54,51 +50,47 @@ fn ours(block: &[u8], size: usize) -> Bytes
     bytes
 }
 
-// An answer to a block of m columns and n reads.
+// An answer to a block.
 #[derive(Drop)]
 struct Builder<'a> {
     block: &'a [u8],
-    m: usize,
-    n: usize,
+    marks: Marks,
     bytes: Bytes,
 }
 
 impl Builder<'_> {
-    fn letter_place(&self, side: usize, j: usize) -> usize {
-        letter_place(self.n, self.m, side, j)
-    }
-
     fn exchange_side(&mut self, r: usize) {
-        let at = r.wrapping_add(17);
+        let at = self.marks.side(r);
         let other = if self.bytes.byte(at) == 0 { 1 } else { 0 };
         self.bytes.put(at, other);
     }
 
     fn exchange_sides(&mut self) {
-        for r in 0..self.n {
+        for r in 0..self.marks.n {
             self.exchange_side(r);
         }
     }
 
     fn exchange_letters(&mut self) {
-        for j in 0..self.m {
-            let one = self.letter_place(0, j);
-            let two = self.letter_place(1, j);
+        for j in 0..self.marks.m {
+            let one = self.marks.letter(0, j);
+            let two = self.marks.letter(1, j);
             self.bytes.swap(one, two);
         }
     }
 
     // Any sides.
     fn put_sides(&mut self, chance: &mut Chance) {
-        for r in 0..self.n {
-            self.bytes.put(r.wrapping_add(17), low(chance.below(2)));
+        for r in 0..self.marks.n {
+            let at = self.marks.side(r);
+            self.bytes.put(at, low(chance.below(2)));
         }
     }
 
     // The letter that costs a side the least at column j, `-` at a tie.
     fn best(&self, side: usize, j: usize) -> u8 {
         let answer = Answer::new(self.block, self.bytes.room());
-        match answer.weight(j, side, 1).cmp(&answer.weight(j, side, 0)) {
+        match answer.weight(side, j, 1).cmp(&answer.weight(side, j, 0)) {
             Ordering::Less => 0,
             Ordering::Greater => 1,
             Ordering::Equal => 2,
@@ -106,7 +98,7 @@ impl Builder<'_> {
     }
 
     fn put_best(&mut self, side: usize, j: usize) {
-        let place = self.letter_place(side, j);
+        let place = self.marks.letter(side, j);
         let letter = self.best(side, j);
         self.bytes.put(place, letter);
     }
@@ -119,7 +111,7 @@ impl Builder<'_> {
 
     // The best letters and the cost of the sides that the answer has.
     fn complete(&mut self) {
-        for j in 0..self.m {
+        for j in 0..self.marks.m {
             self.put_best(0, j);
             self.put_best(1, j);
         }
@@ -128,15 +120,13 @@ impl Builder<'_> {
 
     // Where one of the letters stands.
     fn some_letter(&self, chance: &mut Chance) -> usize {
-        let letters = self.n.wrapping_add(17);
-        letters.wrapping_add(pick(chance, self.m.wrapping_mul(2)))
+        let letter = pick(chance, 2 * self.marks.m);
+        self.marks.letters().wrapping_add(letter)
     }
 
     // Each `-` may become a letter.
     fn put_ties(&mut self, chance: &mut Chance) {
-        let letters = self.n.wrapping_add(17);
-        for i in 0..self.m.wrapping_mul(2) {
-            let at = letters.wrapping_add(i);
+        for at in self.marks.letters()..self.marks.size() {
             if self.bytes.byte(at) == 2 {
                 self.bytes.put(at, low(chance.below(3)));
             }
@@ -145,17 +135,17 @@ impl Builder<'_> {
 
     // Counts about these, and the length that fits them.
     fn put_counts(&mut self, chance: &mut Chance) {
-        let reads = pick(chance, self.n.wrapping_add(2));
-        let columns = pick(chance, self.m.wrapping_add(2));
+        let reads = pick(chance, self.marks.n + 2);
+        let columns = pick(chance, self.marks.m + 2);
         self.bytes.put_word(13, reads);
         self.bytes.put_word(15, columns);
-        self.bytes.resize(size_of(reads, columns));
+        self.bytes.resize((17 + reads + 2 * columns).min(8192));
         self.bytes.put_size();
     }
 
     // One of the sides or letters.
     fn alter_mark(&mut self, chance: &mut Chance) {
-        let mark = pick(chance, self.n.wrapping_add(self.m.wrapping_mul(2)));
+        let mark = pick(chance, self.marks.count());
         alter_byte(&mut self.bytes, mark.wrapping_add(17), chance);
     }
 
@@ -169,8 +159,8 @@ impl Builder<'_> {
                 self.exchange_letters();
             }
             Kind::Side => {
-                if self.n > 0 {
-                    self.exchange_side(chance.below(self.n));
+                if self.marks.n > 0 {
+                    self.exchange_side(chance.below(self.marks.n));
                 }
                 self.complete();
             }
@@ -203,13 +193,11 @@ impl Builder<'_> {
 
 // An answer of a kind to a block.
 pub fn build(block: &[u8], kind: Kind, chance: &mut Chance) -> Bytes {
-    let m = word(block, 5);
-    let n = word(block, 7);
+    let marks = Marks::of(block);
     let mut builder = Builder {
         block,
-        m,
-        n,
-        bytes: ours(block, size_of(n, m)),
+        marks,
+        bytes: ours(block, marks.size().min(8192)),
     };
     builder.alter(kind, chance);
     builder.bytes

@@ -1,5 +1,6 @@
 // A builder's answer, judged as document 02 says, straight from the bytes of the block and of the answer: the first verdict that applies.
 // The least cost, our answer and the table are the exhaustive solver's.
+use crate::marks::Marks;
 use exhaustive::charge::Mode;
 use exhaustive::reads::{Read, Reads};
 use exhaustive::refusals::{Numbers, Refusal};
@@ -35,13 +36,12 @@ impl From<Verdict> for Numbers {
     }
 }
 
-// An answer to a block of m columns and n reads.
+// An answer to a block.
 #[derive(Clone, Copy)]
 pub struct Answer<'a> {
     block: &'a [u8],
     bytes: &'a [u8],
-    m: usize,
-    n: usize,
+    marks: Marks,
 }
 
 // The weight of a read's entry at column j if it has this letter, otherwise 0.
@@ -52,30 +52,19 @@ fn weight_of(read: Read<'_>, j: usize, letter: usize) -> usize {
     }
 }
 
-// Where an answer with n reads and m columns has a side's letter at column j.
-pub fn letter_place(n: usize, m: usize, side: usize, j: usize) -> usize {
-    let first = n.wrapping_add(17);
-    if side == 0 {
-        first.wrapping_add(j)
-    } else {
-        first.wrapping_add(m).wrapping_add(j)
-    }
-}
-
 impl<'a> Answer<'a> {
     pub fn new(block: &'a [u8], bytes: &'a [u8]) -> Answer<'a> {
         Answer {
             block,
             bytes,
-            m: word(block, 5),
-            n: word(block, 7),
+            marks: Marks::of(block),
         }
     }
 
     // The weights of a side's entries with this letter at column j, summed; the sides are the answer's.
-    pub fn weight(&self, j: usize, side: usize, letter: usize) -> usize {
+    pub fn weight(&self, side: usize, j: usize, letter: usize) -> usize {
         Reads::of(self.block)
-            .filter(|read| byte(self.bytes, read.number.wrapping_add(17)) == side)
+            .filter(|read| byte(self.bytes, self.marks.side(read.number)) == side)
             .fold(
                 0,
                 |total: usize, read| total.wrapping_add(weight_of(read, j, letter)),
@@ -84,18 +73,18 @@ impl<'a> Answer<'a> {
 
     // A side's letter at column j.
     fn letter(&self, side: usize, j: usize) -> usize {
-        byte(self.bytes, letter_place(self.n, self.m, side, j))
+        byte(self.bytes, self.marks.letter(side, j))
     }
 
     // The weight of a side's entries at column j that disagree with its letter. A `-` costs either sum: that of 1 is taken.
     fn side_cost(&self, side: usize, j: usize) -> usize {
         let disagrees = if self.letter(side, j) == 0 { 1 } else { 0 };
-        self.weight(j, side, disagrees)
+        self.weight(side, j, disagrees)
     }
 
     // The weight of all entries that disagree.
     pub fn cost(&self) -> usize {
-        (0..self.m).fold(0, |total: usize, j| {
+        (0..self.marks.m).fold(0, |total: usize, j| {
             total
                 .wrapping_add(self.side_cost(0, j))
                 .wrapping_add(self.side_cost(1, j))
@@ -104,7 +93,7 @@ impl<'a> Answer<'a> {
 
     // A `-` where the side's sums differ.
     fn false_dash(&self, side: usize, j: usize) -> bool {
-        self.letter(side, j) == 2 && self.weight(j, side, 0) != self.weight(j, side, 1)
+        self.letter(side, j) == 2 && self.weight(side, j, 0) != self.weight(side, j, 1)
     }
 
     // Under 17 bytes, another version, or a length field that does not fit the bytes or the answer's own n and m.
@@ -131,11 +120,11 @@ impl<'a> Answer<'a> {
         if self.is_ill_formed() {
             return Err(Verdict::IllFormed);
         }
-        if word(self.bytes, 13) != self.n || word(self.bytes, 15) != self.m {
+        let Marks { n, m, .. } = self.marks;
+        if word(self.bytes, 13) != n || word(self.bytes, 15) != m {
             return Err(Verdict::OtherCounts);
         }
-        let letters = self.n.wrapping_add(17);
-        if self.is_above(17, self.n, 1) || self.is_above(letters, self.m.wrapping_mul(2), 2) {
+        if self.is_above(17, n, 1) || self.is_above(self.marks.letters(), 2 * m, 2) {
             return Err(Verdict::NoMark);
         }
         Ok(())
@@ -143,7 +132,7 @@ impl<'a> Answer<'a> {
 
     // The verdicts 53 and 54.
     fn check_claims(&self) -> Result<(), Verdict> {
-        if (0..self.m).any(|j| self.false_dash(0, j) || self.false_dash(1, j)) {
+        if (0..self.marks.m).any(|j| self.false_dash(0, j) || self.false_dash(1, j)) {
             return Err(Verdict::FalseDash);
         }
         if self.cost() != four(self.bytes, 5) {
@@ -164,8 +153,8 @@ impl<'a> Answer<'a> {
 
     // Whether sides and letters are ours.
     fn has_marks(&self, ours: &[u8]) -> bool {
-        let count = self.n.wrapping_add(self.m.wrapping_mul(2));
-        let mut marks = self.bytes.iter().zip(ours).skip(17).take(count);
+        let pairs = self.bytes.iter().zip(ours);
+        let mut marks = pairs.skip(17).take(self.marks.count());
         marks.all(|(mark, own)| mark == own)
     }
 

@@ -111,7 +111,7 @@ pub fn longer(bytes: &mut Bytes, chance: &mut Chance) {
     }
 }
 
-// A field of one of the reads, or of the header. A read and a cell are picked whatever the field: the blocks hang on it.
+// A field of the header or of a read. A read and a cell are picked by chance whatever the field: the blocks that follow hang on it.
 fn alter(bytes: &mut Bytes, field: Option<Field>, chance: &mut Chance) {
     let size = cell_size(bytes.byte(0));
     let read = some_read(bytes, chance);

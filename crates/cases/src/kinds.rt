@@ -14,28 +14,26 @@ pub struct Kind {
 }
 
 impl Kind {
+    fn new(name: &'static str, blocks: usize, shape: Shape) -> Kind {
+        Kind {
+            name,
+            shape,
+            field: None,
+            blocks,
+        }
+    }
+
+    fn damaged(self, field: Field) -> Kind {
+        Kind {
+            field: Some(field),
+            ..self
+        }
+    }
+
     pub fn block(&self, chance: &mut Chance) -> Bytes {
         let mut bytes = self.shape.generate(chance);
         damage(&mut bytes, self.field, chance);
         bytes
-    }
-}
-
-fn sound(name: &'static str, blocks: usize, shape: Shape) -> Kind {
-    Kind {
-        name,
-        shape,
-        field: None,
-        blocks,
-    }
-}
-
-fn damaged(name: &'static str, blocks: usize, shape: Shape, field: Field) -> Kind {
-    Kind {
-        name,
-        shape,
-        field: Some(field),
-        blocks,
     }
 }
 
@@ -49,25 +47,25 @@ pub fn kinds() -> [Kind; 20] {
     let full = Shape::new(6, 1, 6).holes(5).weights(0, 9);
     let some = full.empty(3).refused(1);
     [
-        sound("gapless", 1200, Shape::new(9, 0, 8)),
-        sound("pairs", 1200, Shape::new(24, 1, 8).holes(8)),
-        sound("holes", 1200, Shape::new(9, 1, 8).holes(4).weights(1, 9)),
-        sound("ties", 1200, Shape::new(6, 4, 9).holes(2).weights(1, 1)),
-        sound("weight 0", 1200, Shape::new(7, 2, 8).holes(3).weights(0, 1)),
-        sound("empty reads", 1200, light.empty(3).refused(3)),
-        sound("parts", 1200, apart),
-        sound("deep", 600, deep),
-        sound("crowded", 200, crowded),
-        damaged("version damaged", 300, some, Field::Version),
-        damaged("length field damaged", 300, some, Field::Size),
-        damaged("m damaged", 600, some, Field::Columns),
-        damaged("n damaged", 600, some, Field::Reads),
-        damaged("L damaged", 600, some, Field::Length),
-        damaged("L of no cell", 300, some, Field::Emptied),
-        damaged("first column damaged", 600, some, Field::First),
-        damaged("letter damaged", 600, full, Field::Letter),
-        damaged("weight damaged", 600, full, Field::Weight),
-        damaged("cut off", 600, some, Field::Cut),
-        damaged("bytes behind", 600, some, Field::Behind),
+        Kind::new("gapless", 1200, Shape::new(9, 0, 8)),
+        Kind::new("pairs", 1200, Shape::new(24, 1, 8).holes(8)),
+        Kind::new("holes", 1200, Shape::new(9, 1, 8).holes(4).weights(1, 9)),
+        Kind::new("ties", 1200, Shape::new(6, 4, 9).holes(2).weights(1, 1)),
+        Kind::new("weight 0", 1200, Shape::new(7, 2, 8).holes(3).weights(0, 1)),
+        Kind::new("empty reads", 1200, light.empty(3).refused(3)),
+        Kind::new("parts", 1200, apart),
+        Kind::new("deep", 600, deep),
+        Kind::new("crowded", 200, crowded),
+        Kind::new("version damaged", 300, some).damaged(Field::Version),
+        Kind::new("length field damaged", 300, some).damaged(Field::Size),
+        Kind::new("m damaged", 600, some).damaged(Field::Columns),
+        Kind::new("n damaged", 600, some).damaged(Field::Reads),
+        Kind::new("L damaged", 600, some).damaged(Field::Length),
+        Kind::new("L of no cell", 300, some).damaged(Field::Emptied),
+        Kind::new("first column damaged", 600, some).damaged(Field::First),
+        Kind::new("letter damaged", 600, full).damaged(Field::Letter),
+        Kind::new("weight damaged", 600, full).damaged(Field::Weight),
+        Kind::new("cut off", 600, some).damaged(Field::Cut),
+        Kind::new("bytes behind", 600, some).damaged(Field::Behind),
     ]
 }

@@ -40,11 +40,12 @@ pub fn converted(block: &[u8]) -> Bytes {
 pub fn convert(block: &[u8], room: usize, out: &mut [u8]) -> Result<usize, Refusal> {
     check_old(block)?;
     let new = converted(block);
-    if room < new.len() {
-        return Err(Refusal::Room(new.len()));
+    let bytes = new.as_slice();
+    if room < bytes.len() {
+        return Err(Refusal::Room(bytes.len()));
     }
-    for (place, byte) in out.iter_mut().zip(new.as_slice()) {
-        *place = *byte;
+    if let Some(front) = out.get_mut(..bytes.len()) {
+        front.copy_from_slice(bytes);
     }
     Ok(0)
 }

@@ -3,6 +3,7 @@ ghost use Rattle.std.specs.Prelude.{◌≤◌};
 ghost use Rattle.std.specs.Iterator.{at_most};
 
 use fields::{byte, cell_at, cell_size, weight_at, word};
+use std::ops::Range;
 
 // A read by its number and the place where it starts.
 #[derive(Clone, Copy)]
@@ -52,17 +53,10 @@ impl<'a> Read<'a> {
         word(self.block, self.at.wrapping_add(2))
     }
 
-    // The column after the last; 0 where c = 0.
-    pub fn end_column(self) -> usize {
-        match self.cells() {
-            0 => 0,
-            c => self.first_column() + c,
-        }
-    }
-
-    // Whether the read is active at column j: from its first to its last entry, holes between included.
-    pub fn active(self, j: usize) -> bool {
-        self.first_column() <= j && j < self.end_column()
+    // The columns from its first to its last entry, holes between included; none where c = 0. At these the read is active.
+    pub fn columns(self) -> Range<usize> {
+        let first = self.first_column();
+        first..first + self.cells()
     }
 
     pub fn cell_size(self) -> usize

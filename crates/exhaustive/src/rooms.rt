@@ -61,8 +61,8 @@ pub fn filled_table() -> Table {
 
 // The entries, from the front of the table on.
 pub fn put_entries(table: &mut Table, entries: &[u32]) {
-    for (place, entry) in table.iter_mut().zip(entries) {
-        *place = *entry;
+    if let Some(front) = table.get_mut(..entries.len()) {
+        front.copy_from_slice(entries);
     }
 }
 

@@ -49,11 +49,11 @@ impl Search<'_> {
         let mut k: usize = 0;
         let mut digit: usize = 0;
         for (row, side) in self.rows.iter().zip(sides) {
-            if row.active(j) {
-                if *side == 1 && digit == 0 {
-                    return None;
-                }
+            if row.columns.contains(&j) {
                 if *side == 1 {
+                    if digit == 0 {
+                        return None;
+                    }
                     k = k.wrapping_add(digit);
                 }
                 digit = digit.wrapping_mul(2).max(1);

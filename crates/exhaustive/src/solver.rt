@@ -1,7 +1,7 @@
 // The exhaustive solver, from the definitions of documents 01 and 02: refusals, table, answer block and margins.
 ghost use Rattle.std.specs.Prelude.{◌<◌, ◌≤◌};
 
-use crate::charge::{Column, Mode, Sides};
+use crate::charge::{Column, Mode};
 use crate::matrix::{Row, height, rows};
 use crate::output::{Output, put_head};
 use crate::refusals::{Refusal, check};
@@ -21,7 +21,7 @@ pub struct Sizes {
     ghost few_reads: { n ≤ 16 },
 }
 
-// The check 9, for a block that passes 1 to 8: no column has more than A active reads, which are 12 at most.
+// The check 9, for a block that passes 1 to 8: at most 12 active reads at a column. A is the most, so T is 2^11 at most.
 fn measure_sound(block: &[u8], m: usize, n: usize) -> Result<Sizes, Refusal>
     requires { (m ≤ 1024) × (n ≤ 16) }
 {
@@ -39,7 +39,7 @@ fn measure_sound(block: &[u8], m: usize, n: usize) -> Result<Sizes, Refusal>
     })
 }
 
-// A block with more reads than this solver has rows for shows as a difference.
+// The checks 1 to 9. A block with more reads than this solver has rows for shows as a difference.
 pub fn measure(block: &[u8]) -> Result<Sizes, Refusal> {
     check(block)?;
     let m = word(block, 5);
@@ -67,7 +67,7 @@ impl Sizes {
 }
 
 // A block's rows, divided at the least cost in a mode.
-#[derive(Clone, Copy)]
+#[derive(Drop)]
 struct Solved {
     rows: [Row; 16],
     sizes: Sizes,

@@ -28,58 +28,56 @@ struct Kind {
     trials: usize,
 }
 
-// A kind of answer to a sound block, in room enough.
-fn sound(name: &'static str, answer: builders::Kind, trials: usize) -> Kind {
-    Kind {
-        name,
-        answer,
-        amiss: Amiss::Nothing,
-        trials,
+impl Kind {
+    // Answers to sound blocks, in room enough.
+    fn new(name: &'static str, answer: builders::Kind, trials: usize) -> Kind {
+        Kind {
+            name,
+            answer,
+            amiss: Amiss::Nothing,
+            trials,
+        }
     }
-}
 
-// Our answer, with something amiss.
-fn ours(name: &'static str, amiss: Amiss, trials: usize) -> Kind {
-    Kind {
-        name,
-        answer: builders::Kind::Ours,
-        amiss,
-        trials,
+    fn amiss(self, amiss: Amiss) -> Kind {
+        Kind { amiss, ..self }
     }
 }
 
 fn kinds() -> [Kind; 17] {
     [
-        sound("ours", builders::Kind::Ours, 600),
-        sound("with other flips", builders::Kind::Flips, 600),
-        sound("with sides exchanged", builders::Kind::Exchanged, 600),
-        sound("with one side exchanged", builders::Kind::Side, 600),
-        sound("of another division", builders::Kind::Division, 600),
-        sound("with another letter", builders::Kind::Letter, 600),
-        sound("with letters at ties", builders::Kind::Ties, 600),
-        sound("with another cost", builders::Kind::Cost, 600),
-        sound("with `-` put", builders::Kind::Dash, 600),
-        sound("with a mark damaged", builders::Kind::Mark, 1200),
-        sound("with other counts", builders::Kind::Counts, 600),
-        sound("with a byte damaged", builders::Kind::Byte, 1200),
-        sound("cut off", builders::Kind::Cut, 600),
-        sound("with bytes behind", builders::Kind::Behind, 600),
-        ours("judged in a short room", Amiss::Short, 600),
-        ours("to a damaged block", Amiss::Damaged, 1800),
-        ours("to a crowded block", Amiss::Crowded, 120),
+        Kind::new("ours", builders::Kind::Ours, 600),
+        Kind::new("with other flips", builders::Kind::Flips, 600),
+        Kind::new("with sides exchanged", builders::Kind::Exchanged, 600),
+        Kind::new("with one side exchanged", builders::Kind::Side, 600),
+        Kind::new("of another division", builders::Kind::Division, 600),
+        Kind::new("with another letter", builders::Kind::Letter, 600),
+        Kind::new("with letters at ties", builders::Kind::Ties, 600),
+        Kind::new("with another cost", builders::Kind::Cost, 600),
+        Kind::new("with `-` put", builders::Kind::Dash, 600),
+        Kind::new("with a mark damaged", builders::Kind::Mark, 1200),
+        Kind::new("with other counts", builders::Kind::Counts, 600),
+        Kind::new("with a byte damaged", builders::Kind::Byte, 1200),
+        Kind::new("cut off", builders::Kind::Cut, 600),
+        Kind::new("with bytes behind", builders::Kind::Behind, 600),
+        Kind::new("judged in a short room", builders::Kind::Ours, 600).amiss(Amiss::Short),
+        Kind::new("to a damaged block", builders::Kind::Ours, 1800).amiss(Amiss::Damaged),
+        Kind::new("to a crowded block", builders::Kind::Ours, 120).amiss(Amiss::Crowded),
     ]
 }
 
 // A work room that is ample or exact; or one short.
 fn some_rooms(block: &[u8], amiss: Amiss, chance: &mut Chance) -> Rooms {
     let need = measure(block).map_or(0, |sizes| sizes.work);
-    if amiss == Amiss::Short && need > 0 {
-        return Rooms::lent(need.min(16384).saturating_sub(1), 4096);
+    let exact = Rooms::lent(need, 4096);
+    if amiss == Amiss::Short && exact.work > 0 {
+        return Rooms::lent(exact.work - 1, 4096);
     }
     if chance.below(2) == 0 {
-        return Rooms::lent(need, 4096);
+        exact
+    } else {
+        Rooms::ample()
     }
-    Rooms::ample()
 }
 
 fn shape_for(amiss: Amiss, chance: &mut Chance) -> Shape {

@@ -1,235 +1,204 @@
 // What a builder may answer to a block: ours, another honest answer, or a false one.
 ghost use Rattle.std.specs.Prelude.{◌≤◌};
 
-use crate::verdicts::{cost, letter_place, weight};
-use cases::damage::{alter_byte, alter_word, byte_at, cut, longer};
-use cases::random::below;
-use exhaustive::charge::GENERAL;
-use exhaustive::output::Output;
-use exhaustive::rooms::{ample, fill_table};
+use crate::marks::Marks;
+use crate::verdicts::Answer;
+use cases::damage::{alter_byte, alter_word, cut, longer};
+use cases::random::Chance;
+use exhaustive::charge::Mode;
+use exhaustive::rooms::{Held, Rooms};
 use exhaustive::solver::solve;
-use fields::{Bytes, low, plus, put, put_size, put_word, word};
+use fields::{Bytes, low};
+use std::cmp::Ordering;
 
-// The kinds.
-pub const OURS: u8 = 0;
-
-pub const FLIPS: u8 = 1;
-
-pub const EXCHANGED: u8 = 2;
-
-pub const SIDE: u8 = 3;
-
-pub const DIVISION: u8 = 4;
-
-pub const LETTER: u8 = 5;
-
-pub const TIES: u8 = 6;
-
-pub const COST: u8 = 7;
-
-pub const DASH: u8 = 8;
-
-pub const MARK: u8 = 9;
-
-pub const COUNTS: u8 = 10;
-
-pub const BYTE: u8 = 11;
-
-pub const CUT: u8 = 12;
-
-pub const BEHIND: u8 = 13;
-
-fn copy(from: &Output, to: &mut Bytes) {
-    let mut i: usize = 0;
-    while i < 4096 {
-        put(to, i, from[i]);
-        i += 1;
-    }
-}
-
-// The exhaustive solver's answer.
-fn ours(block: &[u8], answer: &mut Bytes) {
-    let mut table = [0u32; 16385];
-    let mut out = [0u8; 4096];
-    fill_table(&mut table);
-    solve(block, GENERAL, ample(), &mut table, &mut out);
-    copy(&out, answer);
+// Sound answers, and those that state another cost, flip count or mark.
+#[derive(Clone, Copy)]
+pub enum Kind {
+    Ours,
+    Flips,
+    Exchanged,
+    Side,
+    Division,
+    Letter,
+    Ties,
+    Cost,
+    Dash,
+    Mark,
+    Counts,
+    Byte,
+    Cut,
+    Behind,
 }
 
 // A number below the limit; 0 if there is none.
-fn chance(state: &mut u32, limit: usize) -> usize {
-    if limit == 0 {
-        return 0;
+fn pick(chance: &mut Chance, limit: usize) -> usize
+    ensures { result ≤ limit }
+{
+    if limit == 0 { 0 } else { chance.below(limit) }
+}
+
+// The exhaustive solver's answer, of so many bytes; zeros where the block is refused.
+fn ours(block: &[u8], size: usize) -> Bytes
+    requires { size ≤ 8192 }
+{
+    let mut held = Held::new();
+    let mut bytes = Bytes::new();
+    if solve(block, Mode::General, Rooms::ample(), &mut held).is_ok() {
+        bytes.push_all(&held.out[..size.min(4096)]);
     }
-    below(state, limit)
+    bytes.resize(size);
+    bytes
 }
 
-fn exchange_side(answer: &mut Bytes, r: usize) {
-    let at = plus(17, r);
-    let other = if byte_at(answer, at) == 0 { 1 } else { 0 };
-    put(answer, at, other);
+// An answer to a block.
+#[derive(Drop)]
+struct Builder<'a> {
+    block: &'a [u8],
+    marks: Marks,
+    bytes: Bytes,
 }
 
-fn exchange_sides(answer: &mut Bytes, n: usize) {
-    let mut r: usize = 0;
-    while r < n {
-        exchange_side(answer, r);
-        r += 1;
+impl Builder<'_> {
+    fn exchange_side(&mut self, r: usize) {
+        let at = self.marks.side(r);
+        let other = if self.bytes.byte(at) == 0 { 1 } else { 0 };
+        self.bytes.put(at, other);
     }
-}
 
-fn exchange_letters(answer: &mut Bytes, n: usize, m: usize) {
-    let mut j: usize = 0;
-    while j < m {
-        let a = letter_place(n, m, 0, j);
-        let b = letter_place(n, m, 1, j);
-        let one = byte_at(answer, a);
-        let two = byte_at(answer, b);
-        put(answer, a, low(two));
-        put(answer, b, low(one));
-        j += 1;
-    }
-}
-
-// Any sides.
-fn put_sides(answer: &mut Bytes, n: usize, state: &mut u32) {
-    let mut r: usize = 0;
-    while r < n {
-        put(answer, plus(17, r), low(below(state, 2)));
-        r += 1;
-    }
-}
-
-// The letter that costs a side the least at column j, `-` at a tie.
-fn put_best(block: &[u8], answer: &mut Bytes, n: usize, m: usize, side: usize, j: usize) {
-    let zeros = weight(block, answer, n, j, side, 0);
-    let ones = weight(block, answer, n, j, side, 1);
-    let mut letter: u8 = 2;
-    if ones < zeros {
-        letter = 0;
-    }
-    if zeros < ones {
-        letter = 1;
-    }
-    put(answer, letter_place(n, m, side, j), letter);
-}
-
-fn put_letters(block: &[u8], answer: &mut Bytes, n: usize, m: usize) {
-    let mut j: usize = 0;
-    while j < m {
-        put_best(block, answer, n, m, 0, j);
-        put_best(block, answer, n, m, 1, j);
-        j += 1;
-    }
-}
-
-// What the sides and letters cost, as the stated cost.
-fn put_cost(block: &[u8], answer: &mut Bytes, n: usize, m: usize) {
-    let total = cost(block, answer, n, m);
-    put_word(answer, 5, total / 65536);
-    put_word(answer, 7, total);
-}
-
-// The best letters and the cost of the sides that the answer has.
-fn complete(block: &[u8], answer: &mut Bytes, n: usize, m: usize) {
-    put_letters(block, answer, n, m);
-    put_cost(block, answer, n, m);
-}
-
-// Where one of the letters stands.
-fn some_letter(n: usize, m: usize, state: &mut u32) -> usize {
-    plus(plus(17, n), chance(state, plus(m, m)))
-}
-
-// Each `-` may become a letter.
-fn put_ties(answer: &mut Bytes, n: usize, m: usize, state: &mut u32) {
-    let count = plus(m, m);
-    let mut i: usize = 0;
-    while i < count {
-        let at = plus(plus(17, n), i);
-        if byte_at(answer, at) == 2 {
-            put(answer, at, low(below(state, 3)));
+    fn exchange_sides(&mut self) {
+        for r in 0..self.marks.n {
+            self.exchange_side(r);
         }
-        i += 1;
     }
-}
 
-// One of the letters, any, and what it costs then.
-fn put_letter(block: &[u8], answer: &mut Bytes, n: usize, m: usize, state: &mut u32) {
-    put(answer, some_letter(n, m, state), low(below(state, 2)));
-    put_cost(block, answer, n, m);
-}
-
-// Sound answers, and those that state another cost, flip count or mark.
-fn alter(block: &[u8], answer: &mut Bytes, n: usize, m: usize, kind: u8, state: &mut u32) {
-    match kind {
-        FLIPS => alter_word(answer, 11, state),
-        EXCHANGED => {
-            exchange_sides(answer, n);
-            exchange_letters(answer, n, m);
+    fn exchange_letters(&mut self) {
+        for j in 0..self.marks.m {
+            let one = self.marks.letter(0, j);
+            let two = self.marks.letter(1, j);
+            self.bytes.swap(one, two);
         }
-        SIDE => {
-            if n > 0 {
-                exchange_side(answer, below(state, n));
+    }
+
+    // Any sides.
+    fn put_sides(&mut self, chance: &mut Chance) {
+        for r in 0..self.marks.n {
+            let at = self.marks.side(r);
+            self.bytes.put(at, low(chance.below(2)));
+        }
+    }
+
+    // The letter that costs a side the least at column j, `-` at a tie.
+    fn best(&self, side: usize, j: usize) -> u8 {
+        let answer = Answer::new(self.block, self.bytes.room());
+        match answer.weight(side, j, 1).cmp(&answer.weight(side, j, 0)) {
+            Ordering::Less => 0,
+            Ordering::Greater => 1,
+            Ordering::Equal => 2,
+        }
+    }
+
+    fn put_best(&mut self, side: usize, j: usize) {
+        let place = self.marks.letter(side, j);
+        let letter = self.best(side, j);
+        self.bytes.put(place, letter);
+    }
+
+    // What the sides and letters cost, as the stated cost.
+    fn put_cost(&mut self) {
+        let cost = Answer::new(self.block, self.bytes.room()).cost();
+        self.bytes.put_four(5, cost);
+    }
+
+    // The best letters and the cost of the sides that the answer has.
+    fn complete(&mut self) {
+        for j in 0..self.marks.m {
+            self.put_best(0, j);
+            self.put_best(1, j);
+        }
+        self.put_cost();
+    }
+
+    // Where one of the letters stands.
+    fn some_letter(&self, chance: &mut Chance) -> usize {
+        let letter = pick(chance, 2 * self.marks.m);
+        self.marks.letters().wrapping_add(letter)
+    }
+
+    // Each `-` may become a letter.
+    fn put_ties(&mut self, chance: &mut Chance) {
+        for at in self.marks.letters()..self.marks.size() {
+            if self.bytes.byte(at) == 2 {
+                self.bytes.put(at, low(chance.below(3)));
             }
-            complete(block, answer, n, m);
         }
-        DIVISION => {
-            put_sides(answer, n, state);
-            complete(block, answer, n, m);
+    }
+
+    // Counts about these, and the length that fits them.
+    fn put_counts(&mut self, chance: &mut Chance) {
+        let reads = pick(chance, self.marks.n + 2);
+        let columns = pick(chance, self.marks.m + 2);
+        self.bytes.put_word(13, reads);
+        self.bytes.put_word(15, columns);
+        self.bytes.resize((17 + reads + 2 * columns).min(8192));
+        self.bytes.put_size();
+    }
+
+    // One of the sides or letters.
+    fn alter_mark(&mut self, chance: &mut Chance) {
+        let mark = pick(chance, self.marks.count());
+        alter_byte(&mut self.bytes, mark.wrapping_add(17), chance);
+    }
+
+    // What makes our answer one of another kind.
+    fn alter(&mut self, kind: Kind, chance: &mut Chance) {
+        match kind {
+            Kind::Ours => {}
+            Kind::Flips => alter_word(&mut self.bytes, 11, chance),
+            Kind::Exchanged => {
+                self.exchange_sides();
+                self.exchange_letters();
+            }
+            Kind::Side => {
+                if self.marks.n > 0 {
+                    self.exchange_side(chance.below(self.marks.n));
+                }
+                self.complete();
+            }
+            Kind::Division => {
+                self.put_sides(chance);
+                self.complete();
+            }
+            Kind::Letter => {
+                let at = self.some_letter(chance);
+                self.bytes.put(at, low(chance.below(2)));
+                self.put_cost();
+            }
+            Kind::Ties => self.put_ties(chance),
+            Kind::Cost => alter_word(&mut self.bytes, 5 + 2 * chance.below(2), chance),
+            Kind::Dash => {
+                let at = self.some_letter(chance);
+                self.bytes.put(at, 2);
+            }
+            Kind::Mark => self.alter_mark(chance),
+            Kind::Counts => self.put_counts(chance),
+            Kind::Byte => {
+                let at = pick(chance, self.bytes.len());
+                alter_byte(&mut self.bytes, at, chance);
+            }
+            Kind::Cut => cut(&mut self.bytes, chance),
+            Kind::Behind => longer(&mut self.bytes, chance),
         }
-        LETTER => put_letter(block, answer, n, m, state),
-        TIES => put_ties(answer, n, m, state),
-        COST => alter_word(answer, 5 + 2 * below(state, 2), state),
-        DASH => {
-            put(answer, some_letter(n, m, state), 2);
-        }
-        MARK => alter_byte(answer, plus(17, chance(state, plus(n, plus(m, m)))), state),
-        _ => {}
     }
 }
 
-// The bytes of an answer with these counts; no more than there is room for.
-fn size_of(n: usize, m: usize) -> usize
-    ensures { result ≤ 8192 }
-{
-    let size = plus(plus(17, n), plus(m, m));
-    if size < 8192 { size } else { 8192 }
-}
-
-// Counts about these, and the length that fits them.
-fn put_counts(answer: &mut Bytes, n: usize, m: usize, state: &mut u32) -> usize
-    ensures { result ≤ 8192 }
-{
-    let reads = chance(state, plus(n, 2));
-    let columns = chance(state, plus(m, 2));
-    put_word(answer, 13, reads);
-    put_word(answer, 15, columns);
-    let size = size_of(reads, columns);
-    put_size(answer, size);
-    size
-}
-
-// An answer of a kind to a block; and how many bytes it has.
-pub fn put_answer(block: &[u8], answer: &mut Bytes, kind: u8, state: &mut u32) -> usize
-    ensures { result ≤ 8192 }
-{
-    let m = word(block, 5);
-    let n = word(block, 7);
-    let size = size_of(n, m);
-    ours(block, answer);
-    alter(block, answer, n, m, kind, state);
-    if kind == COUNTS {
-        return put_counts(answer, n, m, state);
-    }
-    if kind == BYTE {
-        alter_byte(answer, chance(state, size), state);
-    }
-    if kind == CUT {
-        return cut(answer, size, state);
-    }
-    if kind == BEHIND {
-        return longer(answer, size, state);
-    }
-    size
+// An answer of a kind to a block.
+pub fn build(block: &[u8], kind: Kind, chance: &mut Chance) -> Bytes {
+    let marks = Marks::of(block);
+    let mut builder = Builder {
+        block,
+        marks,
+        bytes: ours(block, marks.size().min(8192)),
+    };
+    builder.alter(kind, chance);
+    builder.bytes
 }

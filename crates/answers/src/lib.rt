@@ -2,4 +2,5 @@
 #![tactic(auto)]
 
 pub mod builders;
+pub mod marks;
 pub mod verdicts;

@@ -1,205 +1,182 @@
 // A builder's answer, judged as document 02 says, straight from the bytes of the block and of the answer: the first verdict that applies.
 // The least cost, our answer and the table are the exhaustive solver's.
-use exhaustive::charge::GENERAL;
-use exhaustive::output::Output;
-use exhaustive::refusals::{Numbers, behind, cell_size, cells, given};
-use exhaustive::rooms::{Table, lent};
+use crate::marks::Marks;
+use exhaustive::charge::Mode;
+use exhaustive::reads::{Read, Reads};
+use exhaustive::refusals::{Numbers, Refusal};
+use exhaustive::rooms::{Held, Rooms};
 use exhaustive::solver::solve;
-use fields::{byte, cell_at, plus, weight_at, word};
+use fields::{byte, four, word};
 
-// The big-endian number of four bytes.
-fn four(answer: &[u8], at: usize) -> usize {
-    word(answer, at) * 65536 + word(answer, plus(at, 2))
+// The verdicts, from 50 on. Too dear is an answer above the least cost.
+#[derive(Clone, Copy)]
+pub enum Verdict {
+    IllFormed,
+    OtherCounts,
+    NoMark,
+    FalseDash,
+    FalseCost,
+    TooDear { least: usize },
+    Optimal,
+    Ours,
+}
+
+impl From<Verdict> for Numbers {
+    fn from(verdict: Verdict) -> Numbers {
+        match verdict {
+            Verdict::IllFormed => Numbers::new(50, 0),
+            Verdict::OtherCounts => Numbers::new(51, 0),
+            Verdict::NoMark => Numbers::new(52, 0),
+            Verdict::FalseDash => Numbers::new(53, 0),
+            Verdict::FalseCost => Numbers::new(54, 0),
+            Verdict::TooDear { least } => Numbers::new(55, least),
+            Verdict::Optimal => Numbers::new(56, 0),
+            Verdict::Ours => Numbers::new(57, 0),
+        }
+    }
+}
+
+// An answer to a block.
+#[derive(Clone, Copy)]
+pub struct Answer<'a> {
+    block: &'a [u8],
+    bytes: &'a [u8],
+    marks: Marks,
 }
 
 // The weight of a read's entry at column j if it has this letter, otherwise 0.
-fn entry(block: &[u8], at: usize, j: usize, letter: usize) -> usize {
-    let first = word(block, plus(at, 2));
-    if j < first {
-        return 0;
+fn weight_of(read: Read<'_>, j: usize, letter: usize) -> usize {
+    match j.checked_sub(read.first_column()) {
+        Some(i) if i < read.cells() && read.letter(i) == letter => read.weight(i),
+        _ => 0,
     }
-    let i = j - first;
-    if i >= cells(block, at) {
-        return 0;
-    }
-    let size = cell_size(block);
-    let cell = cell_at(at, i, size);
-    if byte(block, cell) != letter {
-        return 0;
-    }
-    weight_at(block, cell, size)
 }
 
-// The weights of a side's entries with this letter at column j, summed; the sides are the answer's.
-pub fn weight(
-    block: &[u8],
-    answer: &[u8],
-    n: usize,
-    j: usize,
-    side: usize,
-    letter: usize,
-) -> usize {
-    let mut total: usize = 0;
-    let mut at: usize = 9;
-    let mut r: usize = 0;
-    while r < n {
-        if byte(answer, plus(17, r)) == side {
-            total = plus(total, entry(block, at, j, letter));
+impl<'a> Answer<'a> {
+    pub fn new(block: &'a [u8], bytes: &'a [u8]) -> Answer<'a> {
+        Answer {
+            block,
+            bytes,
+            marks: Marks::of(block),
         }
-        at = behind(block, at);
-        r += 1;
     }
-    total
-}
 
-// Where the answer has a side's letter at column j.
-pub fn letter_place(n: usize, m: usize, side: usize, j: usize) -> usize {
-    let first = plus(17, n);
-    if side == 0 {
-        return plus(first, j);
+    // The weights of a side's entries with this letter at column j, summed; the sides are the answer's.
+    pub fn weight(&self, side: usize, j: usize, letter: usize) -> usize {
+        Reads::of(self.block)
+            .filter(|read| byte(self.bytes, self.marks.side(read.number)) == side)
+            .fold(
+                0,
+                |total: usize, read| total.wrapping_add(weight_of(read, j, letter)),
+            )
     }
-    plus(first, plus(m, j))
-}
 
-// The weight of a side's entries at column j that disagree with its letter. A `-` costs either sum: that of 1 is taken.
-fn side_cost(block: &[u8], answer: &[u8], n: usize, m: usize, side: usize, j: usize) -> usize {
-    if byte(answer, letter_place(n, m, side, j)) == 0 {
-        return weight(block, answer, n, j, side, 1);
+    // A side's letter at column j.
+    fn letter(&self, side: usize, j: usize) -> usize {
+        byte(self.bytes, self.marks.letter(side, j))
     }
-    weight(block, answer, n, j, side, 0)
-}
 
-// The weight of all entries that disagree.
-pub fn cost(block: &[u8], answer: &[u8], n: usize, m: usize) -> usize {
-    let mut total: usize = 0;
-    let mut j: usize = 0;
-    while j < m {
-        total = plus(total, side_cost(block, answer, n, m, 0, j));
-        total = plus(total, side_cost(block, answer, n, m, 1, j));
-        j += 1;
+    // The weight of a side's entries at column j that disagree with its letter. A `-` costs either sum: that of 1 is taken.
+    fn side_cost(&self, side: usize, j: usize) -> usize {
+        let disagrees = if self.letter(side, j) == 0 { 1 } else { 0 };
+        self.weight(side, j, disagrees)
     }
-    total
-}
 
-// A `-` where the side's sums differ.
-fn false_dash(block: &[u8], answer: &[u8], n: usize, m: usize, side: usize, j: usize) -> bool {
-    if byte(answer, letter_place(n, m, side, j)) != 2 {
-        return false;
+    // The weight of all entries that disagree.
+    pub fn cost(&self) -> usize {
+        (0..self.marks.m).fold(0, |total: usize, j| {
+            total
+                .wrapping_add(self.side_cost(0, j))
+                .wrapping_add(self.side_cost(1, j))
+        })
     }
-    weight(block, answer, n, j, side, 0) != weight(block, answer, n, j, side, 1)
-}
 
-fn false_dashes(block: &[u8], answer: &[u8], n: usize, m: usize) -> bool {
-    let mut j: usize = 0;
-    while j < m {
-        if false_dash(block, answer, n, m, 0, j) {
+    // A `-` where the side's sums differ.
+    fn false_dash(&self, side: usize, j: usize) -> bool {
+        self.letter(side, j) == 2 && self.weight(side, j, 0) != self.weight(side, j, 1)
+    }
+
+    // Under 17 bytes, another version, or a length field that does not fit the bytes or the answer's own n and m.
+    fn is_ill_formed(&self) -> bool {
+        if self.bytes.len() < 17 || byte(self.bytes, 0) != 2 {
             return true;
         }
-        if false_dash(block, answer, n, m, 1, j) {
-            return true;
+        let length = four(self.bytes, 1);
+        let counted = 12 + word(self.bytes, 13) + 2 * word(self.bytes, 15);
+        length != self.bytes.len() - 5 || length != counted
+    }
+
+    // Whether one of so many bytes from a place on is above the most.
+    fn is_above(&self, from: usize, count: usize, most: u8) -> bool {
+        self.bytes
+            .iter()
+            .skip(from)
+            .take(count)
+            .any(|mark| *mark > most)
+    }
+
+    // The verdicts 50 to 52.
+    fn check_form(&self) -> Result<(), Verdict> {
+        if self.is_ill_formed() {
+            return Err(Verdict::IllFormed);
         }
-        j += 1;
-    }
-    false
-}
-
-// Under 17 bytes, another version, or a length field that does not fit the bytes or the answer's own n and m.
-fn malformed(answer: &[u8]) -> bool {
-    if answer.len() < 17 {
-        return true;
-    }
-    if byte(answer, 0) != 2 {
-        return true;
-    }
-    let length = four(answer, 1);
-    if length != answer.len() - 5 {
-        return true;
-    }
-    length != 12 + word(answer, 13) + 2 * word(answer, 15)
-}
-
-// Whether one of so many bytes from a place on is above the most.
-fn above(answer: &[u8], from: usize, count: usize, most: usize) -> bool {
-    let mut i: usize = 0;
-    while i < count {
-        if byte(answer, plus(from, i)) > most {
-            return true;
+        let Marks { n, m, .. } = self.marks;
+        if word(self.bytes, 13) != n || word(self.bytes, 15) != m {
+            return Err(Verdict::OtherCounts);
         }
-        i += 1;
-    }
-    false
-}
-
-// The verdicts 50 to 52, or 0.
-fn form(answer: &[u8], n: usize, m: usize) -> usize {
-    if malformed(answer) {
-        return 50;
-    }
-    if word(answer, 13) != n {
-        return 51;
-    }
-    if word(answer, 15) != m {
-        return 51;
-    }
-    if above(answer, 17, n, 1) {
-        return 52;
-    }
-    if above(answer, plus(17, n), plus(m, m), 2) {
-        return 52;
-    }
-    0
-}
-
-// The verdicts 53 and 54, or 0.
-fn honesty(block: &[u8], answer: &[u8], n: usize, m: usize) -> usize {
-    if false_dashes(block, answer, n, m) {
-        return 53;
-    }
-    if cost(block, answer, n, m) != four(answer, 5) {
-        return 54;
-    }
-    0
-}
-
-// Whether sides and letters, so many bytes, are ours.
-fn same_marks(answer: &[u8], ours: &[u8], count: usize) -> bool {
-    let mut i: usize = 0;
-    while i < count {
-        if byte(answer, plus(17, i)) != byte(ours, plus(17, i)) {
-            return false;
+        if self.is_above(17, n, 1) || self.is_above(self.marks.letters(), 2 * m, 2) {
+            return Err(Verdict::NoMark);
         }
-        i += 1;
+        Ok(())
     }
-    true
+
+    // The verdicts 53 and 54.
+    fn check_claims(&self) -> Result<(), Verdict> {
+        if (0..self.marks.m).any(|j| self.false_dash(0, j) || self.false_dash(1, j)) {
+            return Err(Verdict::FalseDash);
+        }
+        if self.cost() != four(self.bytes, 5) {
+            return Err(Verdict::FalseCost);
+        }
+        Ok(())
+    }
+
+    // The verdicts 50 to 55, with the least cost.
+    fn check(&self, least: usize) -> Result<(), Verdict> {
+        self.check_form()?;
+        self.check_claims()?;
+        if four(self.bytes, 5) > least {
+            return Err(Verdict::TooDear { least });
+        }
+        Ok(())
+    }
+
+    // Whether sides and letters are ours.
+    fn has_marks(&self, ours: &[u8]) -> bool {
+        let pairs = self.bytes.iter().zip(ours);
+        let mut marks = pairs.skip(17).take(self.marks.count());
+        marks.all(|(mark, own)| mark == own)
+    }
+
+    // The verdict, where the block is accepted, with the least cost and our answer.
+    fn verdict(&self, least: usize, ours: &[u8]) -> Verdict {
+        match self.check(least) {
+            Err(verdict) => verdict,
+            Ok(()) if self.has_marks(ours) => Verdict::Ours,
+            Ok(()) => Verdict::Optimal,
+        }
+    }
 }
 
-// The verdict, where the block is accepted, with the least cost and our answer.
-fn verdict(block: &[u8], answer: &[u8], least: usize, ours: &Output) -> Numbers {
-    let m = word(block, 5);
-    let n = word(block, 7);
-    let ill = form(answer, n, m);
-    if ill > 0 {
-        return given(ill, 0);
-    }
-    let untrue = honesty(block, answer, n, m);
-    if untrue > 0 {
-        return given(untrue, 0);
-    }
-    if four(answer, 5) > least {
-        return given(55, least);
-    }
-    if same_marks(answer, ours, plus(n, plus(m, m))) {
-        return given(57, 0);
-    }
-    given(56, 0)
+fn judged(block: &[u8], answer: &[u8], rooms: Rooms, held: &mut Held) -> Result<Verdict, Refusal> {
+    let least = solve(block, Mode::General, rooms, held)?;
+    Ok(Answer::new(block, answer).verdict(least, &held.out))
 }
 
-// Both numbers for a work room of this size, and the table in it if the block is accepted.
-pub fn judging(block: &[u8], answer: &[u8], work: usize, table: &mut Table) -> Numbers {
-    let mut ours = [0u8; 4096];
-    let solved = solve(block, GENERAL, lent(work, 4096), table, &mut ours);
-    if solved.number > 0 {
-        return solved;
+// Both numbers for rooms of these sizes, and the table in the work room if the block is accepted.
+pub fn judging(block: &[u8], answer: &[u8], rooms: Rooms, held: &mut Held) -> Numbers {
+    match judged(block, answer, rooms, held) {
+        Ok(verdict) => Numbers::from(verdict),
+        Err(refusal) => Numbers::from(refusal),
     }
-    verdict(block, answer, solved.second, &ours)
 }

@@ -1,176 +1,143 @@
 // A sound block, of either version, damaged in one field.
 ghost use Rattle.std.specs.Prelude.{◌≤◌};
 
-use crate::random::{below, within};
-use fields::{Bytes, cell_size, low, plus, put, put_size, put_word, wide};
+use crate::random::Chance;
+use fields::{Bytes, cell_size, low};
 
-// The fields.
-pub const NONE: u8 = 0;
-
-pub const VERSION: u8 = 1;
-
-pub const SIZE: u8 = 2;
-
-pub const COLUMNS: u8 = 3;
-
-pub const READS: u8 = 4;
-
-pub const LENGTH: u8 = 5;
-
-pub const FIRST: u8 = 6;
-
-pub const LETTER: u8 = 7;
-
-pub const WEIGHT: u8 = 8;
-
-pub const CUT: u8 = 9;
-
-pub const BEHIND: u8 = 10;
-
-// L is 2: the read has no cell.
-pub const EMPTIED: u8 = 11;
-
-pub fn byte_at(bytes: &Bytes, at: usize) -> usize
-    ensures { result ≤ 255 }
-{
-    if at < 8192 {
-        return wide(bytes[at]);
-    }
-    0
+// The fields. An emptied read has L = 2: it has no cell.
+#[derive(Clone, Copy)]
+pub enum Field {
+    Version,
+    Size,
+    Columns,
+    Reads,
+    Length,
+    First,
+    Letter,
+    Weight,
+    Cut,
+    Behind,
+    Emptied,
 }
 
-fn word_at(bytes: &Bytes, at: usize) -> usize
-    ensures { result ≤ 65535 }
-{
-    byte_at(bytes, at) * 256 + byte_at(bytes, plus(at, 1))
+const FIELDS: [Field; 11] = [
+    Field::Version,
+    Field::Size,
+    Field::Columns,
+    Field::Reads,
+    Field::Length,
+    Field::First,
+    Field::Letter,
+    Field::Weight,
+    Field::Cut,
+    Field::Behind,
+    Field::Emptied,
+];
+
+pub fn some_field(chance: &mut Chance) -> Field {
+    FIELDS[chance.below(11)]
 }
 
 // Another number: one that is up to three less or more, a small one or any.
-fn altered(x: usize, state: &mut u32) -> usize {
-    match below(state, 8) {
-        0 => below(state, 65536),
-        1 => below(state, 4),
-        2 | 3 | 4 => plus(x, within(state, 1, 3)),
-        _ => std::num::wrapping_sub_usize(x, within(state, 1, 3)),
+fn altered(x: usize, chance: &mut Chance) -> usize {
+    match chance.below(8) {
+        0 => chance.below(65536),
+        1 => chance.below(4),
+        2..=4 => x.wrapping_add(chance.within(1, 3)),
+        _ => x.wrapping_sub(chance.within(1, 3)),
     }
 }
 
-pub fn alter_byte(bytes: &mut Bytes, at: usize, state: &mut u32) {
-    let x = altered(byte_at(bytes, at), state);
-    put(bytes, at, low(x));
+pub fn alter_byte(bytes: &mut Bytes, at: usize, chance: &mut Chance) {
+    let x = altered(bytes.byte(at), chance);
+    bytes.put(at, low(x));
 }
 
-pub fn alter_word(bytes: &mut Bytes, at: usize, state: &mut u32) {
-    let x = altered(word_at(bytes, at), state);
-    put_word(bytes, at, x);
+pub fn alter_word(bytes: &mut Bytes, at: usize, chance: &mut Chance) {
+    let x = altered(bytes.word(at), chance);
+    bytes.put_word(at, x);
 }
 
 // Where read r starts.
 fn read_at(bytes: &Bytes, r: usize) -> usize {
-    let mut at: usize = 9;
-    let mut i: usize = 0;
-    while i < r {
-        at = plus(at, word_at(bytes, at) + 2);
-        i += 1;
-    }
-    at
+    (0..r).fold(9, |at: usize, _| at.wrapping_add(bytes.word(at) + 2))
 }
 
 // Where one of the reads starts; where the first would, if there is none.
-fn some_read(bytes: &Bytes, state: &mut u32) -> usize {
-    let n = word_at(bytes, 7);
-    if n == 0 {
-        return 9;
+fn some_read(bytes: &Bytes, chance: &mut Chance) -> usize {
+    match bytes.word(7) {
+        0 => 9,
+        n => read_at(bytes, chance.below(n)),
     }
-    read_at(bytes, below(state, n))
 }
 
 // One of the cells, of so many bytes, of the read at a place; the read itself if it has none.
-fn some_cell(bytes: &Bytes, at: usize, size: usize, state: &mut u32) -> usize
+fn some_cell(bytes: &Bytes, at: usize, size: usize, chance: &mut Chance) -> usize
     requires { 2 ≤ size }
 {
-    let length = word_at(bytes, at);
+    let length = bytes.word(at);
     if length < 3 {
         return at;
     }
-    let byte = below(state, length - 2);
-    plus(at, std::num::wrapping_sub_usize(byte + 4, byte % size))
+    let byte = chance.below(length - 2);
+    at.wrapping_add(byte + 4 - byte % size)
 }
 
 // Fewer bytes or more: the length field is put right in one of two.
-fn resized(bytes: &mut Bytes, size: usize, state: &mut u32) -> usize
+fn resize(bytes: &mut Bytes, size: usize, chance: &mut Chance)
     requires { size ≤ 8192 }
-    ensures { result ≤ 8192 }
 {
-    if below(state, 2) == 0 {
-        put_size(bytes, size);
+    bytes.resize(size);
+    if chance.below(2) == 0 {
+        bytes.put_size();
     }
-    size
-}
-
-fn shorter(bytes: &mut Bytes, size: usize, lost: usize, state: &mut u32) -> usize
-    requires { size ≤ 8192 }
-    ensures { result ≤ 8192 }
-{
-    if size < lost {
-        return resized(bytes, 0, state);
-    }
-    resized(bytes, size - lost, state)
 }
 
 // Few bytes less, or any number of bytes.
-pub fn cut(bytes: &mut Bytes, size: usize, state: &mut u32) -> usize
-    requires { size ≤ 8192 }
-    ensures { result ≤ 8192 }
-{
-    if below(state, 4) == 0 {
-        return below(state, size + 1);
+pub fn cut(bytes: &mut Bytes, chance: &mut Chance) {
+    let size = bytes.len();
+    if chance.below(4) == 0 {
+        bytes.resize(chance.below(size + 1));
+    } else {
+        let lost = chance.within(1, 8);
+        resize(bytes, size.saturating_sub(lost), chance);
     }
-    shorter(bytes, size, within(state, 1, 8), state)
 }
 
-pub fn longer(bytes: &mut Bytes, size: usize, state: &mut u32) -> usize
-    requires { size ≤ 8192 }
-    ensures { result ≤ 8192 }
-{
-    let more = within(state, 1, 4);
-    if size + more > 8192 {
-        return size;
+pub fn longer(bytes: &mut Bytes, chance: &mut Chance) {
+    let size = bytes.len() + chance.within(1, 4);
+    if size <= 8192 {
+        resize(bytes, size, chance);
     }
-    resized(bytes, size + more, state)
 }
 
-// A field of the block, damaged; and how many bytes the block has then.
-pub fn damage(bytes: &mut Bytes, size: usize, field: u8, state: &mut u32) -> usize
-    requires { size ≤ 8192 }
-    ensures { result ≤ 8192 }
-{
-    if field == CUT {
-        return cut(bytes, size, state);
-    }
-    if field == BEHIND {
-        return longer(bytes, size, state);
-    }
-    let bytes_of_cell = cell_size(byte_at(bytes, 0));
-    let read = some_read(bytes, state);
-    let cell = some_cell(bytes, read, bytes_of_cell, state);
+// A field of the header or of a read. A read and a cell are picked by chance whatever the field: the blocks that follow hang on it.
+fn alter(bytes: &mut Bytes, field: Option<Field>, chance: &mut Chance) {
+    let size = cell_size(bytes.byte(0));
+    let read = some_read(bytes, chance);
+    let cell = some_cell(bytes, read, size, chance);
+    let Some(field) = field else {
+        return;
+    };
     match field {
-        VERSION => alter_byte(bytes, 0, state),
-        SIZE => alter_word(bytes, 1 + 2 * below(state, 2), state),
-        COLUMNS => alter_word(bytes, 5, state),
-        READS => alter_word(bytes, 7, state),
-        LENGTH => alter_word(bytes, read, state),
-        EMPTIED => {
-            put_word(bytes, read, 2);
-        }
-        FIRST => alter_word(bytes, plus(read, 2), state),
-        LETTER => alter_byte(bytes, cell, state),
-        WEIGHT => alter_byte(
-            bytes,
-            plus(cell, 1 + below(state, bytes_of_cell - 1)),
-            state,
-        ),
-        _ => {}
+        Field::Version => alter_byte(bytes, 0, chance),
+        Field::Size => alter_word(bytes, 1 + 2 * chance.below(2), chance),
+        Field::Columns => alter_word(bytes, 5, chance),
+        Field::Reads => alter_word(bytes, 7, chance),
+        Field::Length => alter_word(bytes, read, chance),
+        Field::First => alter_word(bytes, read.wrapping_add(2), chance),
+        Field::Letter => alter_byte(bytes, cell, chance),
+        Field::Weight => alter_byte(bytes, cell.wrapping_add(1 + chance.below(size - 1)), chance),
+        Field::Emptied => bytes.put_word(read, 2),
+        Field::Cut | Field::Behind => {}
     }
-    size
+}
+
+// A block, damaged in the field if there is one.
+pub fn damage(bytes: &mut Bytes, field: Option<Field>, chance: &mut Chance) {
+    match field {
+        Some(Field::Cut) => cut(bytes, chance),
+        Some(Field::Behind) => longer(bytes, chance),
+        _ => alter(bytes, field, chance),
+    }
 }

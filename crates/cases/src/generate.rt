@@ -1,25 +1,34 @@
 // Blocks of a shape, by chance.
-ghost use Rattle.std.specs.Prelude.{◌+◌, ◌<◌, ◌≤◌};
+ghost use Rattle.std.specs.Prelude.{◌<◌, ◌≤◌};
 
-use crate::random::{below, within};
-use fields::{Bytes, low, plus, put_cell, put_header, put_length, put_size, put_word, wide};
+use crate::random::Chance;
+use fields::{Bytes, low};
+use std::ops::Range;
 
 // A weight of one byte becomes itself, the higher of two bytes, both of them, any number of two bytes, or one of these for each cell.
-pub const ONE: usize = 0;
+#[derive(Clone, Copy)]
+pub enum Spread {
+    One,
+    High,
+    Both,
+    Any,
+    Mixed,
+}
 
-pub const HIGH: usize = 1;
-
-pub const BOTH: usize = 2;
-
-pub const ANY: usize = 3;
-
-pub const MIXED: usize = 4;
+// The last is no spread of one cell.
+const SPREADS: [Spread; 5] = [
+    Spread::One,
+    Spread::High,
+    Spread::Both,
+    Spread::Any,
+    Spread::Mixed,
+];
 
 // What the blocks of a kind are like.
 #[derive(Clone, Copy)]
 pub struct Shape {
-    pub version: usize,
-    spread: usize,
+    version: usize,
+    spread: Spread,
     columns: u8,
     fewest: u8,
     reads: u8,
@@ -37,9 +46,9 @@ impl Shape {
     pub fn new(columns: u8, fewest: u8, most: u8) -> Self {
         Self {
             version: 1,
-            spread: ONE,
-            columns: columns,
-            fewest: fewest,
+            spread: Spread::One,
+            columns,
+            fewest,
             reads: most,
             holes: 0,
             highest: 1,
@@ -52,52 +61,157 @@ impl Shape {
     }
 
     // Of a version, and what becomes of its weights.
-    pub fn version(mut self, version: usize, spread: usize) -> Self {
-        self.version = version;
-        self.spread = spread;
-        self
+    pub fn version(self, version: usize, spread: Spread) -> Self {
+        Self {
+            version,
+            spread,
+            ..self
+        }
     }
 
     // Of eight inner cells so many are holes: all eight make a pair.
-    pub fn holes(mut self, of_eight: u8) -> Self {
-        self.holes = of_eight;
-        self
+    pub fn holes(self, of_eight: u8) -> Self {
+        Self {
+            holes: of_eight,
+            ..self
+        }
     }
 
     // No letter 1.
-    pub fn zeros(mut self) -> Self {
-        self.highest = 0;
-        self
+    pub fn zeros(self) -> Self {
+        Self { highest: 0, ..self }
     }
 
-    pub fn weights(mut self, lightest: u8, heaviest: u8) -> Self {
-        self.lightest = lightest;
-        self.heaviest = heaviest;
-        self
+    pub fn weights(self, lightest: u8, heaviest: u8) -> Self {
+        Self {
+            lightest,
+            heaviest,
+            ..self
+        }
     }
 
     // Of eight reads so many have c = 0 in version 1.
-    pub fn empty(mut self, of_eight: u8) -> Self {
-        self.empty = of_eight;
-        self
+    pub fn empty(self, of_eight: u8) -> Self {
+        Self {
+            empty: of_eight,
+            ..self
+        }
     }
 
     // Of eight reads so many have c = 0 in version 2, which refuses them.
-    pub fn refused(mut self, of_eight: u8) -> Self {
-        self.refused = of_eight;
-        self
+    pub fn refused(self, of_eight: u8) -> Self {
+        Self {
+            refused: of_eight,
+            ..self
+        }
     }
 
     // Each read keeps to three columns, so that parts do not touch.
-    pub fn apart(mut self) -> Self {
-        self.apart = true;
-        self
+    pub fn apart(self) -> Self {
+        Self {
+            apart: true,
+            ..self
+        }
+    }
+
+    // A header of the shape's version but for its length field.
+    pub fn header(&self, m: usize, n: usize) -> Bytes {
+        Bytes::of_header(self.version, m, n)
+    }
+
+    // The columns that a read may lie in.
+    fn part(&self, m: usize, chance: &mut Chance) -> Range<usize>
+        requires { 0 < m }
+        ensures { (result.start < result.end) × (result.end ≤ m) }
+    {
+        if !self.apart {
+            return 0..m;
+        }
+        let from = chance.below(m) / 3 * 3;
+        if m - from < 3 {
+            from..m
+        } else {
+            from..from + 3
+        }
+    }
+
+    fn some_weight(&self, chance: &mut Chance) -> usize {
+        let weight = chance.within(self.lightest, self.heaviest);
+        let spread = match self.spread {
+            Spread::Mixed => SPREADS[chance.below(4)],
+            of_all => of_all,
+        };
+        match spread {
+            Spread::One => weight,
+            Spread::High => weight * 256,
+            Spread::Both => weight * 257,
+            Spread::Any | Spread::Mixed => chance.below(65536),
+        }
+    }
+
+    // A cell, a hole where it may be one and chance has it.
+    fn push_some(&self, bytes: &mut Bytes, inner: bool, chance: &mut Chance) {
+        let hole = chance.below(8) < usize::from(self.holes);
+        let letter = chance.within(0, self.highest);
+        let weight = self.some_weight(chance);
+        if inner && hole {
+            bytes.push_cell(self.version, 2, 0);
+        } else {
+            bytes.push_cell(self.version, low(letter), weight);
+        }
+    }
+
+    // A read of c cells from a column on.
+    pub fn push_span(&self, bytes: &mut Bytes, column: usize, c: usize, chance: &mut Chance) {
+        let at = bytes.len();
+        bytes.push_word(0);
+        bytes.push_word(column);
+        for i in 0..c {
+            self.push_some(bytes, i > 0 && i + 1 < c, chance);
+        }
+        bytes.put_length(at);
+    }
+
+    fn push_read(&self, bytes: &mut Bytes, m: usize, chance: &mut Chance)
+        requires { (0 < m) × (m ≤ 255) }
+    {
+        if chance.below(8) < usize::from(self.empty) {
+            self.push_span(bytes, 0, 0, chance);
+            return;
+        }
+        let columns = self.part(m, chance);
+        let room = columns.end - columns.start;
+        let c = 1 + chance.below(room);
+        let column = columns.start + chance.below(room - c + 1);
+        self.push_span(bytes, column, c, chance);
+    }
+
+    // The shape in version 1 or 2.
+    fn some_version(self, chance: &mut Chance) -> Shape {
+        if chance.below(2) == 0 {
+            return self;
+        }
+        self.version(2, SPREADS[chance.below(5)])
+            .empty(self.refused)
+    }
+
+    // A block of either version, sound but for what the shape has refused.
+    pub fn generate(self, chance: &mut Chance) -> Bytes {
+        let shape = self.some_version(chance);
+        let m = chance.within(1, shape.columns);
+        let n = chance.within(shape.fewest, shape.reads);
+        let mut bytes = shape.header(m, n);
+        for _ in 0..n {
+            shape.push_read(&mut bytes, m, chance);
+        }
+        bytes.put_size();
+        bytes
     }
 }
 
 // Few reads and columns, of one of the kinds of block.
-pub fn some_shape(state: &mut u32) -> Shape {
-    match below(state, 7) {
+pub fn some_shape(chance: &mut Chance) -> Shape {
+    match chance.below(7) {
         0 => Shape::new(6, 0, 6),
         1 => Shape::new(12, 1, 6).holes(8),
         2 => Shape::new(6, 1, 6).holes(4).weights(1, 9),
@@ -106,149 +220,4 @@ pub fn some_shape(state: &mut u32) -> Shape {
         5 => Shape::new(5, 1, 7).holes(3).weights(0, 3).empty(3),
         _ => Shape::new(9, 2, 7).holes(3).weights(0, 3).apart(),
     }
-}
-
-// The columns that a read may lie in.
-#[derive(Clone, Copy)]
-struct Span {
-    from: usize,
-    room: usize,
-}
-
-fn part(m: usize, apart: bool, state: &mut u32) -> Span
-    requires { 0 < m }
-    ensures { (0 < result.room) × (result.from + result.room ≤ m) }
-{
-    if !apart {
-        return Span { from: 0, room: m };
-    }
-    let from = below(state, m) / 3 * 3;
-    if m - from < 3 {
-        return Span {
-            from: from,
-            room: m - from,
-        };
-    }
-    Span {
-        from: from,
-        room: 3,
-    }
-}
-
-// What a weight of one byte becomes.
-fn spread(weight: usize, spread: usize, state: &mut u32) -> usize
-    requires { weight ≤ 255 }
-{
-    match spread {
-        ONE => weight,
-        HIGH => weight * 256,
-        BOTH => weight * 257,
-        _ => below(state, 65536),
-    }
-}
-
-fn some_weight(shape: Shape, state: &mut u32) -> usize {
-    let weight = within(state, shape.lightest, shape.heaviest);
-    if shape.spread == MIXED {
-        return spread(weight, below(state, MIXED), state);
-    }
-    spread(weight, shape.spread, state)
-}
-
-// A cell, a hole where it may be one and chance has it.
-fn put_some(bytes: &mut Bytes, at: usize, inner: bool, shape: Shape, state: &mut u32) -> usize
-    ensures { result ≤ 8192 }
-{
-    let hole = below(state, 8) < wide(shape.holes);
-    let letter = within(state, 0, shape.highest);
-    let weight = some_weight(shape, state);
-    if inner && hole {
-        return put_cell(bytes, at, shape.version, 2, 0);
-    }
-    put_cell(bytes, at, shape.version, low(letter), weight)
-}
-
-fn put_cells(bytes: &mut Bytes, at: usize, c: usize, shape: Shape, state: &mut u32) -> usize
-    requires { at ≤ 8192 }
-    ensures { result ≤ 8192 }
-{
-    let mut end = at;
-    let mut i: usize = 0;
-    while i < c {
-        end = put_some(bytes, end, i > 0 && i + 1 < c, shape, state);
-        i += 1;
-    }
-    end
-}
-
-// A read of c cells from a column on.
-pub fn put_span(
-    bytes: &mut Bytes,
-    at: usize,
-    column: usize,
-    c: usize,
-    shape: Shape,
-    state: &mut u32,
-) -> usize
-    ensures { result ≤ 8192 }
-{
-    let cells = put_word(bytes, plus(at, 2), column);
-    let end = put_cells(bytes, cells, c, shape, state);
-    put_length(bytes, at, end);
-    end
-}
-
-fn put_read(bytes: &mut Bytes, at: usize, m: usize, shape: Shape, state: &mut u32) -> usize
-    requires { (0 < m) × (m ≤ 255) }
-    ensures { result ≤ 8192 }
-{
-    if below(state, 8) < wide(shape.empty) {
-        return put_span(bytes, at, 0, 0, shape, state);
-    }
-    let s = part(m, shape.apart, state);
-    let c = 1 + below(state, s.room);
-    let column = s.from + below(state, s.room - c + 1);
-    put_span(bytes, at, column, c, shape, state)
-}
-
-fn put_reads(
-    bytes: &mut Bytes,
-    at: usize,
-    m: usize,
-    n: usize,
-    shape: Shape,
-    state: &mut u32,
-) -> usize
-    requires { (at ≤ 8192) × ((0 < m) × (m ≤ 255)) }
-    ensures { result ≤ 8192 }
-{
-    let mut end = at;
-    let mut r: usize = 0;
-    while r < n {
-        end = put_read(bytes, end, m, shape, state);
-        r += 1;
-    }
-    end
-}
-
-// The shape in version 1 or 2.
-fn some_version(shape: Shape, state: &mut u32) -> Shape {
-    if below(state, 2) == 0 {
-        return shape;
-    }
-    let refused = shape.refused;
-    shape.version(2, below(state, MIXED + 1)).empty(refused)
-}
-
-// A block of either version, sound but for what the shape has refused; and how many bytes it has.
-pub fn generate(bytes: &mut Bytes, of: Shape, state: &mut u32) -> usize
-    ensures { result ≤ 8192 }
-{
-    let shape = some_version(of, state);
-    let m = within(state, 1, shape.columns);
-    let n = within(state, shape.fewest, shape.reads);
-    let start = put_header(bytes, shape.version, m, n);
-    let size = put_reads(bytes, start, m, n, shape, state);
-    put_size(bytes, size);
-    size
 }

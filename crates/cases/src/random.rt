@@ -1,29 +1,39 @@
 // A small generator: 32 binary digits, shifted and folded onto themselves. The same numbers in every run.
 ghost use Rattle.std.specs.Prelude.{◌<◌, ◌≤◌};
 
-fn next(state: &mut u32) -> u32 {
-    let a = *state ^ (*state << 13);
-    let b = a ^ (a >> 17);
-    let c = b ^ (b << 5);
-    *state = c;
-    c
+#[derive(Drop)]
+pub struct Chance {
+    state: u32,
 }
 
-// A number below the limit.
-pub fn below(state: &mut u32, limit: usize) -> usize
-    requires { 0 < limit }
-    ensures { result < limit }
-{
-    (next(state) >> 4) as usize % limit
-}
-
-// A number from `from` to `to`.
-pub fn within(state: &mut u32, from: u8, to: u8) -> usize
-    ensures { (from ≤ result) × (result ≤ 255) }
-{
-    let start = from as usize;
-    if to <= from {
-        return start;
+impl Chance {
+    pub fn new(state: u32) -> Chance {
+        Chance { state }
     }
-    start + below(state, to as usize - start + 1)
+
+    fn next(&mut self) -> u32 {
+        self.state ^= self.state << 13;
+        self.state ^= self.state >> 17;
+        self.state ^= self.state << 5;
+        self.state
+    }
+
+    // A number below the limit.
+    pub fn below(&mut self, limit: usize) -> usize
+        requires { 0 < limit }
+        ensures { result < limit }
+    {
+        (self.next() >> 4) as usize % limit
+    }
+
+    // A number from `from` to `to`.
+    pub fn within(&mut self, from: u8, to: u8) -> usize
+        ensures { (from ≤ result) × (result ≤ 255) }
+    {
+        let start = usize::from(from);
+        if to <= from {
+            return start;
+        }
+        start + self.below(usize::from(to - from) + 1)
+    }
 }

@@ -1,126 +1,79 @@
-// What is stated of the examples, by their numbers: in the general mode, then in the all-heterozygous one. In the general mode the costs,
-// flips, sides and letters of P1 to P9 and the tables of P1 and P2 are those of document 01, with `-` for the letter of a tie; the others
-// are from a search outside.
-ghost use Rattle.std.specs.Prelude.{◌<◌};
+// What is stated of the examples, in each mode. In the general mode the costs, flips, sides and letters of P1 to P9 and the tables of P1
+// and P2 are those of document 01, with `-` for the letter of a tie; the others are from a search outside.
+use crate::examples::Example;
 
-// Sides and haplotypes.
-const MARKS: [[u8; 12]; 26] = [
-    *b"1000 10 0-  ", // P1
-    *b"001 000 111 ", // P2
-    *b"- -         ", // P3
-    *b"0 0 -       ", // P4
-    *b"01 0 1      ", // P5
-    *b"00 0 -      ", // P6
-    *b"00 - -      ", // P7
-    *b"0 1- --     ", // P8
-    *b"01 000 110  ", // 0:9 0:9 0:5 / 1:9 1:9 0:5
-    *b"01 01 11    ", // 0:1 1:1 / 1:4 1:4
-    *b"01 0- 1-    ", // 0:9 0:0 / 1:9 1:0
-    *b"00 0 -      ", // P9
-    *b"1000 10 0-  ", // P1, 256 times as heavy
-    // The all-heterozygous mode.
-    *b"1000 10 01  ",
-    *b"001 000 111 ",
-    *b"- -         ",
-    *b"0 0 1       ",
-    *b"01 0 1      ",
-    *b"00 0 1      ",
-    *b"00 - -      ",
-    *b"0 1- 0-     ",
-    *b"01 00- 11-  ",
-    *b"00 11 00    ",
-    *b"01 0- 1-    ",
-    *b"00 0 1      ",
-    *b"1000 10 01  ",
-];
-
-// Cost, flips and how many entries the table has.
-const NUMBERS: [[usize; 3]; 26] = [
-    [1, 1, 8],
-    [3, 1, 12],
-    [0, 0, 1],
-    [0, 0, 1],
-    [0, 0, 2],
-    [0, 0, 2],
-    [0, 1, 2],
-    [0, 0, 2],
-    [0, 0, 6],
-    [0, 0, 4],
-    [0, 1, 4],
-    [0, 0, 1],
-    [256, 1, 8],
-    // The all-heterozygous mode.
-    [1, 1, 8],
-    [3, 1, 12],
-    [0, 0, 1],
-    [0, 0, 1],
-    [0, 0, 2],
-    [0, 0, 2],
-    [0, 1, 2],
-    [0, 0, 2],
-    [5, 1, 6],
-    [1, 1, 4],
-    [0, 2, 4],
-    [0, 0, 1],
-    [256, 1, 8],
-];
-
-// The entries, with zeros behind them.
-const ENTRIES: [[u32; 12]; 26] = [
-    [5, 3, 0, 5, 1, 3, 1, 4, 0, 0, 0, 0],
-    [5, 4, 0, 5, 10, 4, 0, 10, 15, 4, 3, 15],
-    [0, 0, 0, 0, 0, 0, 0, 0, 0, 0, 0, 0],
-    [0, 0, 0, 0, 0, 0, 0, 0, 0, 0, 0, 0],
-    [5, 0, 0, 0, 0, 0, 0, 0, 0, 0, 0, 0],
-    [0, 0, 0, 0, 0, 0, 0, 0, 0, 0, 0, 0],
-    [0, 0, 0, 0, 0, 0, 0, 0, 0, 0, 0, 0],
-    [0, 0, 0, 0, 0, 0, 0, 0, 0, 0, 0, 0],
-    [9, 0, 18, 0, 18, 0, 0, 0, 0, 0, 0, 0],
-    [1, 0, 1, 0, 0, 0, 0, 0, 0, 0, 0, 0],
-    [9, 0, 9, 0, 0, 0, 0, 0, 0, 0, 0, 0],
-    [0, 0, 0, 0, 0, 0, 0, 0, 0, 0, 0, 0],
-    [1280, 768, 0, 1280, 256, 768, 256, 1024, 0, 0, 0, 0],
-    // The all-heterozygous mode.
-    [5, 3, 0, 6, 1, 3, 2, 5, 0, 0, 0, 0],
-    [5, 4, 0, 5, 10, 4, 0, 10, 15, 4, 3, 15],
-    [0, 0, 0, 0, 0, 0, 0, 0, 0, 0, 0, 0],
-    [0, 0, 0, 0, 0, 0, 0, 0, 0, 0, 0, 0],
-    [5, 0, 0, 0, 0, 0, 0, 0, 0, 0, 0, 0],
-    [0, 3, 0, 0, 0, 0, 0, 0, 0, 0, 0, 0],
-    [0, 0, 0, 0, 0, 0, 0, 0, 0, 0, 0, 0],
-    [0, 0, 0, 0, 0, 0, 0, 0, 0, 0, 0, 0],
-    [9, 0, 18, 0, 18, 5, 0, 0, 0, 0, 0, 0],
-    [1, 0, 1, 1, 0, 0, 0, 0, 0, 0, 0, 0],
-    [9, 0, 9, 0, 0, 0, 0, 0, 0, 0, 0, 0],
-    [0, 0, 0, 0, 0, 0, 0, 0, 0, 0, 0, 0],
-    [1280, 768, 0, 1536, 256, 768, 512, 1280, 0, 0, 0, 0],
-];
-
-// Where the rows of an example in a mode stand.
-fn place(i: usize, heterozygous: bool) -> usize
-    requires { i < 13 }
-    ensures { result < 26 }
-{
-    if heterozygous { i + 13 } else { i }
+// Sides and haplotypes, the cost, the flips, and the entries of the table.
+#[derive(Clone, Copy)]
+pub struct Stated<'a> {
+    pub marks: &'a [u8],
+    pub cost: usize,
+    pub flips: usize,
+    pub entries: &'a [u32],
 }
 
-pub fn marks(i: usize, heterozygous: bool) -> [u8; 12]
-    requires { i < 13 }
-{
-    let at = place(i, heterozygous);
-    MARKS[at]
+impl<'a> Stated<'a> {
+    pub fn new(marks: &'a [u8], cost: usize, flips: usize, entries: &'a [u32]) -> Stated<'a> {
+        Stated {
+            marks,
+            cost,
+            flips,
+            entries,
+        }
+    }
 }
 
-pub fn numbers(i: usize, heterozygous: bool) -> [usize; 3]
-    requires { i < 13 }
-{
-    let at = place(i, heterozygous);
-    NUMBERS[at]
+pub fn general(example: Example) -> Stated<'static> {
+    match example {
+        Example::P1 => Stated::new(b"1000 10 0-", 1, 1, &[5, 3, 0, 5, 1, 3, 1, 4]),
+        Example::P2 => Stated::new(
+            b"001 000 111",
+            3,
+            1,
+            &[5, 4, 0, 5, 10, 4, 0, 10, 15, 4, 3, 15],
+        ),
+        Example::P3 => Stated::new(b"- -", 0, 0, &[0]),
+        Example::P4 => Stated::new(b"0 0 -", 0, 0, &[0]),
+        Example::P5 => Stated::new(b"01 0 1", 0, 0, &[5, 0]),
+        Example::P6 => Stated::new(b"00 0 -", 0, 0, &[0, 0]),
+        Example::P7 => Stated::new(b"00 - -", 0, 1, &[0, 0]),
+        Example::P8 => Stated::new(b"0 1- --", 0, 0, &[0, 0]),
+        Example::OtherCost => Stated::new(b"01 000 110", 0, 0, &[9, 0, 18, 0, 18, 0]),
+        Example::OtherSides => Stated::new(b"01 01 11", 0, 0, &[1, 0, 1, 0]),
+        Example::OtherFlips => Stated::new(b"01 0- 1-", 0, 1, &[9, 0, 9, 0]),
+        Example::P9 => Stated::new(b"00 0 -", 0, 0, &[0]),
+        Example::Heavy => Stated::new(
+            b"1000 10 0-",
+            256,
+            1,
+            &[1280, 768, 0, 1280, 256, 768, 256, 1024],
+        ),
+    }
 }
 
-pub fn entries(i: usize, heterozygous: bool) -> [u32; 12]
-    requires { i < 13 }
-{
-    let at = place(i, heterozygous);
-    ENTRIES[at]
+pub fn heterozygous(example: Example) -> Stated<'static> {
+    match example {
+        Example::P1 => Stated::new(b"1000 10 01", 1, 1, &[5, 3, 0, 6, 1, 3, 2, 5]),
+        Example::P2 => Stated::new(
+            b"001 000 111",
+            3,
+            1,
+            &[5, 4, 0, 5, 10, 4, 0, 10, 15, 4, 3, 15],
+        ),
+        Example::P3 => Stated::new(b"- -", 0, 0, &[0]),
+        Example::P4 => Stated::new(b"0 0 1", 0, 0, &[0]),
+        Example::P5 => Stated::new(b"01 0 1", 0, 0, &[5, 0]),
+        Example::P6 => Stated::new(b"00 0 1", 0, 0, &[0, 3]),
+        Example::P7 => Stated::new(b"00 - -", 0, 1, &[0, 0]),
+        Example::P8 => Stated::new(b"0 1- 0-", 0, 0, &[0, 0]),
+        Example::OtherCost => Stated::new(b"01 00- 11-", 5, 1, &[9, 0, 18, 0, 18, 5]),
+        Example::OtherSides => Stated::new(b"00 11 00", 1, 1, &[1, 0, 1, 1]),
+        Example::OtherFlips => Stated::new(b"01 0- 1-", 0, 2, &[9, 0, 9, 0]),
+        Example::P9 => Stated::new(b"00 0 1", 0, 0, &[0]),
+        Example::Heavy => Stated::new(
+            b"1000 10 01",
+            256,
+            1,
+            &[1280, 768, 0, 1536, 256, 768, 512, 1280],
+        ),
+    }
 }

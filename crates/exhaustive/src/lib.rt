@@ -6,6 +6,7 @@ pub mod charge;
 pub mod converter;
 pub mod matrix;
 pub mod output;
+pub mod reads;
 pub mod refusals;
 pub mod rooms;
 pub mod search;

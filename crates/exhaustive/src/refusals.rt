@@ -1,172 +1,141 @@
-// The numbers 1 to 8 and 38, from the tables of documents 01 and 02 and nothing else.
-ghost use Rattle.std.specs.Prelude.{◌≤◌};
+// The checks 1 to 8 and 38, from the tables of documents 01 and 02 and nothing else.
+use crate::reads::{Read, Reads};
+use fields::{byte, four, word};
 
-use fields::{byte, plus, weight_at, word};
+// What a call may be refused for, with its second number where it has one: a read, a column, or what is needed.
+#[derive(Clone, Copy, PartialEq, Eq)]
+pub enum Refusal {
+    Header,
+    Version,
+    Size,
+    Counts,
+    Length(usize),
+    Columns(usize),
+    Cells(usize),
+    Behind,
+    Crowded(usize),
+    Work(usize),
+    Output(usize),
+    Run(usize),
+    Empty(usize),
+    Room(usize),
+    // More reads or columns than this solver has room for. No call gives its number, so that it shows as a difference.
+    Unsolved(usize),
+}
 
 // The two numbers of a call.
-#[derive(Clone, Copy)]
+#[derive(Clone, Copy, PartialEq, Eq)]
 pub struct Numbers {
     pub number: usize,
     pub second: usize,
 }
 
-pub fn given(number: usize, second: usize) -> Numbers {
-    Numbers {
-        number: number,
-        second: second,
+impl Numbers {
+    pub fn new(number: usize, second: usize) -> Numbers {
+        Numbers { number, second }
     }
 }
 
-// How many bytes stand from a place on.
-fn left(block: &[u8], at: usize) -> usize {
-    if at < block.len() {
-        return block.len() - at;
+impl From<Refusal> for Numbers {
+    fn from(refusal: Refusal) -> Numbers {
+        match refusal {
+            Refusal::Header => Numbers::new(1, 0),
+            Refusal::Version => Numbers::new(2, 0),
+            Refusal::Size => Numbers::new(3, 0),
+            Refusal::Counts => Numbers::new(4, 0),
+            Refusal::Length(r) => Numbers::new(5, r),
+            Refusal::Columns(r) => Numbers::new(6, r),
+            Refusal::Cells(r) => Numbers::new(7, r),
+            Refusal::Behind => Numbers::new(8, 0),
+            Refusal::Crowded(j) => Numbers::new(9, j),
+            Refusal::Work(need) => Numbers::new(10, need),
+            Refusal::Output(need) => Numbers::new(11, need),
+            Refusal::Run(need) => Numbers::new(13, need),
+            Refusal::Empty(r) => Numbers::new(38, r),
+            Refusal::Room(need) => Numbers::new(39, need),
+            Refusal::Unsolved(count) => Numbers::new(99, count),
+        }
     }
-    0
 }
 
-// The checks 1 to 4, or 0.
-fn header_number(block: &[u8]) -> usize {
+// 0 and the cost where a block is accepted.
+impl From<Result<usize, Refusal>> for Numbers {
+    fn from(solved: Result<usize, Refusal>) -> Numbers {
+        match solved {
+            Ok(cost) => Numbers::new(0, cost),
+            Err(refusal) => Numbers::from(refusal),
+        }
+    }
+}
+
+// The checks 1 to 4.
+fn check_header(block: &[u8]) -> Result<(), Refusal> {
     if block.len() < 9 {
-        return 1;
+        return Err(Refusal::Header);
     }
-    let version = byte(block, 0);
-    if version == 0 {
-        return 2;
+    if !matches!(byte(block, 0), 1 | 2) {
+        return Err(Refusal::Version);
     }
-    if version > 2 {
-        return 2;
-    }
-    if word(block, 1) * 65536 + word(block, 3) != block.len() - 5 {
-        return 3;
+    if four(block, 1) != block.len() - 5 {
+        return Err(Refusal::Size);
     }
     let m = word(block, 5);
-    if m == 0 {
-        return 4;
+    if m == 0 || m > 1024 || word(block, 7) > 1024 {
+        return Err(Refusal::Counts);
     }
-    if m > 1024 {
-        return 4;
-    }
-    if word(block, 7) > 1024 {
-        return 4;
-    }
-    0
+    Ok(())
 }
 
 // A letter above 2, a hole with weight, or a hole at an end.
 fn faulty(letter: usize, weight: usize, inner: bool) -> bool {
-    if letter < 2 {
-        return false;
-    }
-    if letter > 2 {
-        return true;
-    }
-    if weight > 0 {
-        return true;
-    }
-    !inner
+    letter > 2 || letter == 2 && (weight > 0 || !inner)
 }
 
-// The bytes of a cell of the block.
-pub fn cell_size(block: &[u8]) -> usize
-    ensures { (2 ≤ result) × (result ≤ 3) }
-{
-    fields::cell_size(byte(block, 0))
+fn faulty_cells(read: Read<'_>, c: usize) -> bool {
+    (0..c).any(|i| faulty(read.letter(i), read.weight(i), i > 0 && i + 1 < c))
 }
 
-// Whether one of the c cells from a place on is faulty.
-fn faulty_cells(block: &[u8], at: usize, c: usize) -> bool {
-    let size = cell_size(block);
-    let mut cell = at;
-    let mut i: usize = 0;
-    while i < c {
-        let inner = i > 0 && i + 1 < c;
-        if faulty(byte(block, cell), weight_at(block, cell, size), inner) {
-            return true;
-        }
-        cell = plus(cell, size);
-        i += 1;
-    }
-    false
-}
-
-// The number of cells of the read at a place.
-pub fn cells(block: &[u8], at: usize) -> usize {
-    let length = word(block, at);
-    if length < 2 {
-        return 0;
-    }
-    (length - 2) / cell_size(block)
-}
-
-// Where the read at a place ends.
-pub fn behind(block: &[u8], at: usize) -> usize {
-    plus(at, word(block, at) + 2)
-}
-
-// The check of a read without a cell, or 0: version 2 refuses it, version 1 has it at column 0.
-fn empty_number(version: usize, first: usize) -> usize {
+// The check of a read without a cell: version 2 refuses it, version 1 has it at column 0.
+fn check_empty(read: Read<'_>, version: usize) -> Result<(), Refusal> {
     if version == 2 {
-        return 38;
+        return Err(Refusal::Empty(read.number));
     }
-    if first > 0 {
-        return 6;
+    if read.first_column() > 0 {
+        return Err(Refusal::Columns(read.number));
     }
-    0
+    Ok(())
 }
 
-// The checks 5, 38, 6 and 7 for the read at a place, or 0.
-fn read_number(block: &[u8], at: usize, m: usize) -> usize {
-    if left(block, at) < 2 {
-        return 5;
+// The checks 5, 38, 6 and 7 for a read of a block of this version with m columns.
+fn check_read(read: Read<'_>, version: usize, m: usize) -> Result<(), Refusal> {
+    let length = read.length();
+    let odd = length < 2 || (length - 2) % read.cell_size() > 0;
+    if read.left() < 2 || odd || read.left() < length + 2 {
+        return Err(Refusal::Length(read.number));
     }
-    let length = word(block, at);
-    if length < 2 {
-        return 5;
-    }
-    if (length - 2) % cell_size(block) > 0 {
-        return 5;
-    }
-    if left(block, at) < length + 2 {
-        return 5;
-    }
-    let first = word(block, plus(at, 2));
-    let c = cells(block, at);
+    let c = read.cells();
     if c == 0 {
-        return empty_number(byte(block, 0), first);
+        return check_empty(read, version);
     }
-    if plus(first, c) > m {
-        return 6;
+    if read.first_column() + c > m {
+        return Err(Refusal::Columns(read.number));
     }
-    if faulty_cells(block, plus(at, 4), c) {
-        return 7;
+    if faulty_cells(read, c) {
+        return Err(Refusal::Cells(read.number));
     }
-    0
+    Ok(())
 }
 
-// The checks 5 to 8 and 38, for a block of m columns and n reads.
-fn reads_numbers(block: &[u8], m: usize, n: usize) -> Numbers {
-    let mut at: usize = 9;
-    let mut r: usize = 0;
-    while r < n {
-        let number = read_number(block, at, m);
-        if number > 0 {
-            return given(number, r);
-        }
-        at = behind(block, at);
-        r += 1;
+// The checks 1 to 8 and 38.
+pub fn check(block: &[u8]) -> Result<(), Refusal> {
+    check_header(block)?;
+    let mut end = 9;
+    for read in Reads::of(block) {
+        check_read(read, byte(block, 0), word(block, 5))?;
+        end = read.end();
     }
-    if left(block, at) > 0 {
-        return given(8, 0);
+    if end < block.len() {
+        return Err(Refusal::Behind);
     }
-    given(0, 0)
-}
-
-// The checks 1 to 8 and 38; the number is 0 where none applies.
-pub fn checked(block: &[u8]) -> Numbers {
-    let number = header_number(block);
-    if number > 0 {
-        return given(number, 0);
-    }
-    reads_numbers(block, word(block, 5), word(block, 7))
+    Ok(())
 }

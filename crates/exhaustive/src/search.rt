@@ -1,153 +1,102 @@
 // All divisions of all n reads, one after the other in closing order: the least sum for every table entry that a division agrees with,
 // and the first of the cheapest divisions.
-ghost use Rattle.std.specs.Prelude.{◌≤◌};
+ghost use Rattle.std.specs.Prelude.{◌≤◌, length};
 
-use crate::charge::{Sides, charge, least, sum};
-use crate::matrix::{Cells, Columns, active};
+use crate::charge::{Column, Mode, Sides};
+use crate::matrix::Row;
 use crate::rooms::Table;
-use fields::plus;
 
-// The first of the cheapest divisions, by its place in closing order.
+// The first of the cheapest divisions.
 #[derive(Clone, Copy)]
 pub struct Best {
-    pub place: usize,
+    pub sides: Sides,
     pub cost: u32,
 }
 
-// The entry that a division agrees with at a column; none where it has the first active read on side 1.
+// The rows and m columns that are searched in a mode, T table entries a column.
 #[derive(Clone, Copy)]
-enum Place {
-    At(usize),
-    Nowhere,
-}
-
-fn next_digit(digit: usize) -> usize {
-    if digit == 0 {
-        return 1;
-    }
-    plus(digit, digit)
-}
-
-// The entry that the sides agree with at column j. Rows stand in closing order: the first active one is a0, and the digits of the
-// others are 1, 2, 4, ..
-fn entry(first: &Columns, end: &Columns, sides: &Sides, n: usize, j: usize) -> Place
-    requires { n ≤ 16 }
-{
-    let mut k: usize = 0;
-    let mut digit: usize = 0;
-    let mut i: usize = 0;
-    while i < n {
-        if active(first, end, i, j) {
-            if sides[i] == 1 {
-                if digit == 0 {
-                    return Place::Nowhere;
-                }
-                k = plus(k, digit);
-            }
-            digit = next_digit(digit);
-        }
-        i += 1;
-    }
-    Place::At(k)
+pub struct Search<'a> {
+    pub rows: &'a [Row],
+    pub m: usize,
+    pub t: usize,
+    pub mode: Mode,
+    ghost few_rows: { length rows.now ≤ 16 },
+    ghost few_columns: { m ≤ 1024 },
 }
 
 // The entry itself; what would lie behind the room goes to the entry that is never lent, and shows there.
-pub fn spot(at: usize) -> usize
+fn spot(at: usize) -> usize
     ensures { result ≤ 16384 }
 {
-    if at < 16384 { at } else { 16384 }
-}
-
-// The lesser of what an entry of the column from `from` on holds and a new sum.
-fn keep(table: &mut Table, from: usize, e: Place, total: u32) {
-    match e {
-        Place::At(k) => {
-            let at = spot(plus(from, k));
-            table[at] = least(table[at], total);
-        }
-        Place::Nowhere => {}
-    }
-}
-
-// One division: its charges column by column, their sums kept in the table; and its cost.
-fn follow(
-    first: &Columns,
-    end: &Columns,
-    cells: &Cells,
-    sides: &Sides,
-    n: usize,
-    m: usize,
-    t: usize,
-    heterozygous: bool,
-    table: &mut Table,
-) -> u32
-    requires { (n ≤ 16) × (m ≤ 1024) }
-{
-    let mut total: u32 = 0;
-    let mut from: usize = 0;
-    let mut j: usize = 0;
-    while j < m {
-        total = sum(total, charge(cells, sides, n, j, heterozygous));
-        keep(table, from, entry(first, end, sides, n, j), total);
-        from = plus(from, t);
-        j += 1;
-    }
-    total
+    at.min(16384)
 }
 
 // The division at a place in closing order: the first row's side is the highest of n binary digits.
-pub fn divide(place: usize, n: usize, sides: &mut Sides)
+fn divide(place: usize, n: usize) -> Sides
     requires { n ≤ 16 }
 {
-    let mut rest = place;
-    let mut i = n;
-    while i > 0 {
-        i -= 1;
-        sides[i] = if rest % 2 == 1 { 1 } else { 0 };
-        rest = rest / 2;
+    let mut sides = [0; 16];
+    for i in 0..n {
+        sides[n - 1 - i] = ((place >> i) % 2) as u8;
     }
+    sides
 }
 
-// x doubled so many times.
-pub fn doubled(x: usize, times: usize) -> usize {
-    let mut r = x;
-    let mut i: usize = 0;
-    while i < times {
-        r = plus(r, r);
-        i += 1;
-    }
-    r
-}
-
-// All 2^n divisions in closing order, and the first of the cheapest.
-pub fn walk(
-    first: &Columns,
-    end: &Columns,
-    cells: &Cells,
-    n: usize,
-    m: usize,
-    t: usize,
-    heterozygous: bool,
-    table: &mut Table,
-) -> Best
-    requires { (n ≤ 16) × (m ≤ 1024) }
-{
-    let mut sides = [0u8; 16];
-    let mut best: usize = 0;
-    let mut cost: u32 = 4294967295;
-    let count = doubled(1, n);
-    let mut d: usize = 0;
-    while d < count {
-        divide(d, n, &mut sides);
-        let c = follow(first, end, cells, &sides, n, m, t, heterozygous, table);
-        if c < cost {
-            cost = c;
-            best = d;
+impl Search<'_> {
+    // The entry that the sides agree with at column j; none where the first active row is on side 1. Rows stand in closing order: the
+    // first active one is a0, and the digits of the others are 1, 2, 4, ..
+    fn entry(&self, sides: &Sides, j: usize) -> Option<usize> {
+        let mut k: usize = 0;
+        let mut digit: usize = 0;
+        for (row, side) in self.rows.iter().zip(sides) {
+            if row.columns.contains(&j) {
+                if *side == 1 {
+                    if digit == 0 {
+                        return None;
+                    }
+                    k = k.wrapping_add(digit);
+                }
+                digit = digit.wrapping_mul(2).max(1);
+            }
         }
-        d += 1;
+        Some(k)
     }
-    Best {
-        place: best,
-        cost: cost,
+
+    // One division: its charges column by column, their sums kept in the table where they are the least; and its cost.
+    fn follow(&self, sides: &Sides, table: &mut Table) -> u32 {
+        let mut total: u32 = 0;
+        let mut from: usize = 0;
+        for j in 0..self.m {
+            let column = Column {
+                rows: self.rows,
+                sides,
+                mode: self.mode,
+                j,
+            };
+            total = total.wrapping_add(column.charge());
+            if let Some(k) = self.entry(sides, j) {
+                let at = spot(from.wrapping_add(k));
+                table[at] = table[at].min(total);
+            }
+            from = from.wrapping_add(self.t);
+        }
+        total
+    }
+
+    // All 2^n divisions in closing order, and the first of the cheapest.
+    pub fn walk(&self, table: &mut Table) -> Best {
+        let n = self.rows.len();
+        let mut best = Best {
+            sides: [0; 16],
+            cost: u32::MAX,
+        };
+        for place in 0..1usize << n {
+            let sides = divide(place, n);
+            let cost = self.follow(&sides, table);
+            if cost < best.cost {
+                best = Best { sides, cost };
+            }
+        }
+        best
     }
 }

@@ -1,46 +1,30 @@
-// The bytes of a block: read from anywhere, written one after the other.
+// The bytes of a block or of an answer: read from anywhere, written anywhere or one after the other.
 #![tactic(auto)]
 
 ghost use Rattle.std.specs.Prelude.{◌≤◌};
-
-// Room for a block.
-pub type Bytes = [u8; 8192];
-
-pub fn wide(b: u8) -> usize
-    ensures { result ≤ 255 }
-{
-    b as usize
-}
-
-pub fn long(x: u32) -> usize {
-    x as usize
-}
 
 // The last eight binary digits of x.
 pub fn low(x: usize) -> u8 {
     (x % 256) as u8
 }
 
-// x + y. No number here comes near the end of its type, so nothing wraps, and nothing has to be shown.
-pub fn plus(x: usize, y: usize) -> usize {
-    std::num::wrapping_add_usize(x, y)
-}
-
 // The byte at a place; 0 behind the end.
-pub fn byte(block: &[u8], at: usize) -> usize
+pub fn byte(bytes: &[u8], at: usize) -> usize
     ensures { result ≤ 255 }
 {
-    if at < block.len() {
-        return wide(block[at]);
-    }
-    0
+    bytes.get(at).map_or(0, |b| usize::from(*b))
 }
 
-// The big-endian number of two bytes.
-pub fn word(block: &[u8], at: usize) -> usize
+// The big-endian number of two bytes. No number here comes near the end of its type, so no sum of places wraps.
+pub fn word(bytes: &[u8], at: usize) -> usize
     ensures { result ≤ 65535 }
 {
-    byte(block, at) * 256 + byte(block, plus(at, 1))
+    byte(bytes, at) * 256 + byte(bytes, at.wrapping_add(1))
+}
+
+// The big-endian number of four bytes.
+pub fn four(bytes: &[u8], at: usize) -> usize {
+    word(bytes, at) * 65536 + word(bytes, at.wrapping_add(2))
 }
 
 // The bytes of a cell: a letter and a weight, which has one byte in version 1 and two in version 2.
@@ -52,67 +36,154 @@ pub fn cell_size(version: usize) -> usize
 
 // Where cell i of the read at a place starts.
 pub fn cell_at(at: usize, i: usize, size: usize) -> usize {
-    let cell = plus(plus(at, 4), plus(i, i));
-    if size == 2 { cell } else { plus(cell, i) }
+    at.wrapping_add(4).wrapping_add(i.wrapping_mul(size))
 }
 
 // The weight of the cell at a place.
-pub fn weight_at(block: &[u8], cell: usize, size: usize) -> usize
+pub fn weight_at(bytes: &[u8], cell: usize, size: usize) -> usize
     ensures { result ≤ 65535 }
 {
-    let at = plus(cell, 1);
+    let at = cell.wrapping_add(1);
     if size == 2 {
-        return byte(block, at);
+        byte(bytes, at)
+    } else {
+        word(bytes, at)
     }
-    word(block, at)
 }
 
-// Each `put_..` writes from `at` on and answers where it ends. What has no place in the room is left out.
-pub fn put(bytes: &mut Bytes, at: usize, b: u8) -> usize
-    ensures { result ≤ 8192 }
-{
-    if at < 8192 {
-        bytes[at] = b;
-        return at + 1;
+// Each `put_..` writes from `at` on. What has no place there is left out.
+pub fn put(bytes: &mut [u8], at: usize, b: u8) {
+    if let Some(place) = bytes.get_mut(at) {
+        *place = b;
     }
-    8192
 }
 
-pub fn put_word(bytes: &mut Bytes, at: usize, x: usize) -> usize
-    ensures { result ≤ 8192 }
-{
-    let second = put(bytes, at, low(x / 256));
-    put(bytes, second, low(x))
+pub fn put_word(bytes: &mut [u8], at: usize, x: usize) {
+    put(bytes, at, low(x / 256));
+    put(bytes, at.wrapping_add(1), low(x));
 }
 
-// A cell of a version.
-pub fn put_cell(bytes: &mut Bytes, at: usize, version: usize, letter: u8, weight: usize) -> usize
-    ensures { result ≤ 8192 }
-{
-    let second = put(bytes, at, letter);
-    if version == 2 {
-        return put_word(bytes, second, weight);
+pub fn put_four(bytes: &mut [u8], at: usize, x: usize) {
+    put_word(bytes, at, x / 65536);
+    put_word(bytes, at.wrapping_add(2), x);
+}
+
+// A block or an answer, from the front of a room of 8,192 bytes. What lies behind it in the room stays when it becomes longer.
+#[derive(Clone, Copy)]
+pub struct Bytes {
+    room: [u8; 8192],
+    size: usize,
+    ghost fits: { size ≤ 8192 },
+}
+
+impl Bytes {
+    pub fn new() -> Bytes {
+        Bytes {
+            room: [0; 8192],
+            size: 0,
+        }
     }
-    put(bytes, second, low(weight))
-}
 
-// The length field of a read that starts at a place and is written up to its end.
-pub fn put_length(bytes: &mut Bytes, at: usize, end: usize) {
-    put_word(bytes, at, std::num::wrapping_sub_usize(end, plus(at, 2)));
-}
+    // A header but for its length field.
+    pub fn of_header(version: usize, m: usize, n: usize) -> Bytes {
+        let mut bytes = Bytes::new();
+        bytes.push(low(version));
+        bytes.push_word(0);
+        bytes.push_word(0);
+        bytes.push_word(m);
+        bytes.push_word(n);
+        bytes
+    }
 
-// The header but for its length field.
-pub fn put_header(bytes: &mut Bytes, version: usize, m: usize, n: usize) -> usize
-    ensures { result ≤ 8192 }
-{
-    put(bytes, 0, low(version));
-    let reads = put_word(bytes, 5, m);
-    put_word(bytes, reads, n)
-}
+    pub fn len(&self) -> usize
+        ensures { result ≤ 8192 }
+    {
+        self.size
+    }
 
-// The length field of a block of so many bytes.
-pub fn put_size(bytes: &mut Bytes, size: usize) {
-    let rest = std::num::wrapping_sub_usize(size, 5);
-    put_word(bytes, 1, rest / 65536);
-    put_word(bytes, 3, rest);
+    pub fn as_slice(&self) -> &[u8] {
+        &self.room[..self.size]
+    }
+
+    // The whole room.
+    pub fn room(&self) -> &[u8] {
+        &self.room
+    }
+
+    // The byte at a place of the room.
+    pub fn byte(&self, at: usize) -> usize
+        ensures { result ≤ 255 }
+    {
+        byte(&self.room, at)
+    }
+
+    pub fn word(&self, at: usize) -> usize
+        ensures { result ≤ 65535 }
+    {
+        word(&self.room, at)
+    }
+
+    pub fn put(&mut self, at: usize, b: u8) {
+        put(&mut self.room, at, b);
+    }
+
+    pub fn put_word(&mut self, at: usize, x: usize) {
+        put_word(&mut self.room, at, x);
+    }
+
+    pub fn put_four(&mut self, at: usize, x: usize) {
+        put_four(&mut self.room, at, x);
+    }
+
+    pub fn swap(&mut self, a: usize, b: usize) {
+        if a < 8192 && b < 8192 {
+            self.room.swap(a, b);
+        }
+    }
+
+    // As many bytes of the room.
+    pub fn resize(&mut self, size: usize)
+        requires { size ≤ 8192 }
+    {
+        self.size = size;
+    }
+
+    // Each `push_..` writes behind the last byte. What has no place in the room is left out.
+    pub fn push(&mut self, b: u8) {
+        if self.size < 8192 {
+            self.room[self.size] = b;
+            self.size += 1;
+        }
+    }
+
+    pub fn push_word(&mut self, x: usize) {
+        self.push(low(x / 256));
+        self.push(low(x));
+    }
+
+    pub fn push_all(&mut self, bytes: &[u8]) {
+        for b in bytes {
+            self.push(*b);
+        }
+    }
+
+    // A cell of a version.
+    pub fn push_cell(&mut self, version: usize, letter: u8, weight: usize) {
+        self.push(letter);
+        if version == 2 {
+            self.push_word(weight);
+        } else {
+            self.push(low(weight));
+        }
+    }
+
+    // The length field of a read that starts at a place and is written up to its end.
+    pub fn put_length(&mut self, at: usize) {
+        self.put_word(at, self.size.wrapping_sub(at.wrapping_add(2)));
+    }
+
+    // The length field of the header.
+    pub fn put_size(&mut self) {
+        self.put_four(1, self.size.wrapping_sub(5));
+    }
 }

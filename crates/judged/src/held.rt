@@ -1,56 +1,41 @@
 // One answer, judged by `velejume::judge` and held against the judging of `answers`: both numbers and every work entry, those that are not
 // lent included.
-ghost use Rattle.std.specs.Prelude.{◌≤◌};
-
 use answers::verdicts::judging;
-use exhaustive::refusals::{Numbers, given};
-use exhaustive::rooms::{Table, fill_table};
-use fields::long;
-use report::lines::{Tally, count};
-use report::same::{same_numbers, same_work};
+use exhaustive::refusals::Numbers;
+use exhaustive::rooms::{Held, Rooms, filled_table};
+use report::lines::Tally;
+use report::same::{same_items, same_numbers};
 
-// An answer, judged in a work room of this size, against two numbers and what the room is to hold.
+// An answer, judged in the work room of these, against two numbers and what the room is to hold.
 fn against(
     block: &[u8],
     answer: &[u8],
-    work: usize,
+    rooms: Rooms,
     expected: Numbers,
-    table: &Table,
+    held: &Held,
     tally: &mut Tally,
-)
-    requires { work ≤ 16384 }
-{
-    let mut room = [0u32; 16385];
-    fill_table(&mut room);
-    let r = velejume::judge(block, answer, &mut room[..work]);
-    let found = given(long(r.number), long(r.second));
-    count(tally, found.number);
+) {
+    let mut lent = filled_table();
+    let r = velejume::judge(block, answer, &mut lent[..rooms.work]);
+    let found = Numbers::new(r.number as usize, r.second as usize);
+    tally.count(found.number);
     if same_numbers(found, expected, tally) {
-        same_work(&room, table, tally);
+        same_items("work entry", &lent, &held.work, tally);
     }
 }
 
 // An answer against the judging of `answers`.
-pub fn against_judging(block: &[u8], answer: &[u8], work: usize, tally: &mut Tally)
-    requires { work ≤ 16384 }
-{
-    let mut table = [0u32; 16385];
-    fill_table(&mut table);
-    let expected = judging(block, answer, work, &mut table);
-    against(block, answer, work, expected, &table, tally);
+pub fn against_judging(block: &[u8], answer: &[u8], rooms: Rooms, tally: &mut Tally) {
+    let mut held = Held::new();
+    let expected = judging(block, answer, rooms, &mut held);
+    against(block, answer, rooms, expected, &held, tally);
 }
 
 // An answer to P1, in as much work room as it needs, against its stated verdict, which the judging of `answers` has to give too.
-pub fn against_stated(
-    block: &[u8],
-    answer: &[u8],
-    number: usize,
-    second: usize,
-    tally: &mut Tally,
-) {
-    let mut table = [0u32; 16385];
-    fill_table(&mut table);
-    let own = judging(block, answer, 8, &mut table);
-    against(block, answer, 8, given(number, second), &table, tally);
-    same_numbers(own, given(number, second), tally);
+pub fn against_stated(block: &[u8], answer: &[u8], stated: Numbers, tally: &mut Tally) {
+    let rooms = Rooms::lent(8, 4096);
+    let mut held = Held::new();
+    let own = judging(block, answer, rooms, &mut held);
+    against(block, answer, rooms, stated, &held, tally);
+    same_numbers(own, stated, tally);
 }

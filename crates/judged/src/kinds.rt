@@ -1,163 +1,125 @@
 // Answers to generated blocks, kind by kind, each against the judging of `answers`.
-ghost use Rattle.std.specs.Prelude.{◌≤◌, ◌<◌};
-
 use crate::held::against_judging;
 use answers::builders;
-use answers::builders::put_answer;
-use cases::damage;
-use cases::damage::damage;
-use cases::generate::{Shape, generate, some_shape};
-use cases::random::{below, within};
-use exhaustive::rooms::lent;
+use answers::builders::build;
+use cases::damage::{Field, damage, some_field};
+use cases::generate::{Shape, some_shape};
+use cases::random::Chance;
+use exhaustive::rooms::Rooms;
 use exhaustive::solver::measure;
-use fields::{Bytes, low, wide};
-use report::lines::{Name, Tally, line_of};
+use report::kinds::of_kind;
+use report::lines::Tally;
 
 // What else is amiss with a trial: nothing, a work room that is one short, a damaged block, or a block that is crowded.
-const NOTHING: u8 = 0;
+#[derive(Clone, Copy, PartialEq, Eq)]
+enum Amiss {
+    Nothing,
+    Short,
+    Damaged,
+    Crowded,
+}
 
-const SHORT: u8 = 1;
+// What a kind is called, the answer, what is amiss, and how many are tried.
+#[derive(Clone, Copy)]
+struct Kind {
+    name: &'static str,
+    answer: builders::Kind,
+    amiss: Amiss,
+    trials: usize,
+}
 
-const DAMAGED: u8 = 2;
-
-const CROWDED: u8 = 3;
-
-const KINDS: usize = 17;
-
-const NAMES: [Name; 17] = [
-    *b"ours                    ",
-    *b"with other flips        ",
-    *b"with sides exchanged    ",
-    *b"with one side exchanged ",
-    *b"of another division     ",
-    *b"with another letter     ",
-    *b"with letters at ties    ",
-    *b"with another cost       ",
-    *b"with `-` put            ",
-    *b"with a mark damaged     ",
-    *b"with other counts       ",
-    *b"with a byte damaged     ",
-    *b"cut off                 ",
-    *b"with bytes behind       ",
-    *b"judged in a short room  ",
-    *b"to a damaged block      ",
-    *b"to a crowded block      ",
-];
-
-// Of each kind: the answer, what is amiss, and how many tens are tried.
-const ANSWERS: [[u8; 3]; 17] = [
-    [builders::OURS, NOTHING, 60],
-    [builders::FLIPS, NOTHING, 60],
-    [builders::EXCHANGED, NOTHING, 60],
-    [builders::SIDE, NOTHING, 60],
-    [builders::DIVISION, NOTHING, 60],
-    [builders::LETTER, NOTHING, 60],
-    [builders::TIES, NOTHING, 60],
-    [builders::COST, NOTHING, 60],
-    [builders::DASH, NOTHING, 60],
-    [builders::MARK, NOTHING, 120],
-    [builders::COUNTS, NOTHING, 60],
-    [builders::BYTE, NOTHING, 120],
-    [builders::CUT, NOTHING, 60],
-    [builders::BEHIND, NOTHING, 60],
-    [builders::OURS, SHORT, 60],
-    [builders::OURS, DAMAGED, 180],
-    [builders::OURS, CROWDED, 12],
-];
-
-// A work room that is ample or exact; or one short.
-fn some_work(block: &[u8], short: bool, state: &mut u32) -> usize
-    ensures { result ≤ 16384 }
-{
-    let need = lent(measure(block).work, 0).work;
-    if short {
-        if need > 0 {
-            return need - 1;
+impl Kind {
+    // Answers to sound blocks, in room enough.
+    fn new(name: &'static str, answer: builders::Kind, trials: usize) -> Kind {
+        Kind {
+            name,
+            answer,
+            amiss: Amiss::Nothing,
+            trials,
         }
     }
-    if below(state, 2) == 0 {
-        return need;
+
+    fn amiss(self, amiss: Amiss) -> Kind {
+        Kind { amiss, ..self }
     }
-    16384
 }
 
-fn shape_for(amiss: u8, state: &mut u32) -> Shape {
-    if amiss == CROWDED {
-        return Shape::new(2, 12, 14).weights(0, 3);
+fn kinds() -> [Kind; 17] {
+    [
+        Kind::new("ours", builders::Kind::Ours, 600),
+        Kind::new("with other flips", builders::Kind::Flips, 600),
+        Kind::new("with sides exchanged", builders::Kind::Exchanged, 600),
+        Kind::new("with one side exchanged", builders::Kind::Side, 600),
+        Kind::new("of another division", builders::Kind::Division, 600),
+        Kind::new("with another letter", builders::Kind::Letter, 600),
+        Kind::new("with letters at ties", builders::Kind::Ties, 600),
+        Kind::new("with another cost", builders::Kind::Cost, 600),
+        Kind::new("with `-` put", builders::Kind::Dash, 600),
+        Kind::new("with a mark damaged", builders::Kind::Mark, 1200),
+        Kind::new("with other counts", builders::Kind::Counts, 600),
+        Kind::new("with a byte damaged", builders::Kind::Byte, 1200),
+        Kind::new("cut off", builders::Kind::Cut, 600),
+        Kind::new("with bytes behind", builders::Kind::Behind, 600),
+        Kind::new("judged in a short room", builders::Kind::Ours, 600).amiss(Amiss::Short),
+        Kind::new("to a damaged block", builders::Kind::Ours, 1800).amiss(Amiss::Damaged),
+        Kind::new("to a crowded block", builders::Kind::Ours, 120).amiss(Amiss::Crowded),
+    ]
+}
+
+// A work room that is ample or exact; or one short.
+fn some_rooms(block: &[u8], amiss: Amiss, chance: &mut Chance) -> Rooms {
+    let need = measure(block).map_or(0, |sizes| sizes.work);
+    let exact = Rooms::lent(need, 4096);
+    if amiss == Amiss::Short && exact.work > 0 {
+        return Rooms::lent(exact.work - 1, 4096);
     }
-    some_shape(state)
-}
-
-fn field_for(amiss: u8, state: &mut u32) -> u8 {
-    if amiss == DAMAGED {
-        return low(within(state, 1, 11));
+    if chance.below(2) == 0 {
+        exact
+    } else {
+        Rooms::ample()
     }
-    damage::NONE
 }
 
-// The answer to a block of so many bytes.
-fn answered(b: Bytes, size: usize, answer: &mut Bytes, kind: u8, state: &mut u32) -> usize
-    requires { size ≤ 8192 }
-    ensures { result ≤ 8192 }
-{
-    put_answer(&b[..size], answer, kind, state)
-}
-
-fn tried(
-    b: Bytes,
-    size: usize,
-    answer: Bytes,
-    length: usize,
-    short: bool,
-    state: &mut u32,
-    tally: &mut Tally,
-)
-    requires { (size ≤ 8192) × (length ≤ 8192) }
-{
-    let block = &b[..size];
-    let work = some_work(block, short, state);
-    against_judging(block, &answer[..length], work, tally);
-}
-
-// One block and an answer to it. A block is damaged after it was answered.
-fn one(kind: u8, amiss: u8, state: &mut u32, tally: &mut Tally) {
-    let mut b = [0u8; 8192];
-    let mut answer = [0u8; 8192];
-    let shape = shape_for(amiss, state);
-    let field = field_for(amiss, state);
-    let whole = generate(&mut b, shape, state);
-    let length = answered(b, whole, &mut answer, kind, state);
-    let size = damage(&mut b, whole, field, state);
-    tried(b, size, answer, length, amiss == SHORT, state, tally);
-}
-
-fn name(i: usize) -> Name
-    requires { i < 17 }
-{
-    NAMES[i]
-}
-
-// The answers of the kind of a number.
-fn answers(i: usize, state: &mut u32, all: &mut Tally)
-    requires { i < 17 }
-{
-    let kind = ANSWERS[i];
-    let trials = 10 * wide(kind[2]);
-    let mut tally = all.fresh();
-    let mut trial: usize = 0;
-    while trial < trials {
-        one(kind[0], kind[1], state, &mut tally);
-        trial += 1;
+fn shape_for(amiss: Amiss, chance: &mut Chance) -> Shape {
+    match amiss {
+        Amiss::Crowded => Shape::new(2, 12, 14).weights(0, 3),
+        _ => some_shape(chance),
     }
-    line_of(b"answer ", name(i), &tally, all);
+}
+
+fn field_for(amiss: Amiss, chance: &mut Chance) -> Option<Field> {
+    match amiss {
+        Amiss::Damaged => Some(some_field(chance)),
+        _ => None,
+    }
+}
+
+impl Kind {
+    // One block and an answer to it. A block is damaged after it was answered.
+    fn hold(&self, chance: &mut Chance, tally: &mut Tally) {
+        let shape = shape_for(self.amiss, chance);
+        let field = field_for(self.amiss, chance);
+        let mut block = shape.generate(chance);
+        let answer = build(block.as_slice(), self.answer, chance);
+        damage(&mut block, field, chance);
+        let rooms = some_rooms(block.as_slice(), self.amiss, chance);
+        against_judging(block.as_slice(), answer.as_slice(), rooms, tally);
+    }
 }
 
 // The same blocks and answers in every run.
-pub fn run(all: &mut Tally) {
-    let mut state: u32 = 19970823;
-    let mut i: usize = 0;
-    while i < KINDS {
-        answers(i, &mut state, all);
-        i += 1;
+pub fn run(call: &str, all: &mut Tally) {
+    let mut chance = Chance::new(19970823);
+    for kind in &kinds() {
+        of_kind(
+            call,
+            kind.name,
+            kind.trials,
+            &mut chance,
+            all,
+            |chance, tally| {
+                kind.hold(chance, tally);
+            },
+        );
     }
 }

@@ -7,7 +7,10 @@ mod kinds;
 
 use report::lines::Tally;
 
+// What the lines begin with.
+const CALL: &str = "answer ";
+
 pub fn run(all: &mut Tally) {
-    examples::run(all);
-    kinds::run(all);
+    examples::run(CALL, all);
+    kinds::run(CALL, all);
 }

@@ -1,14 +1,10 @@
 // One block, solved by `velejume::phase_margins` and held against what is expected: both numbers, every work entry, every output byte and
 // every number of the run, those that are not lent included.
-ghost use Rattle.std.specs.Prelude.{◌≤◌};
-
-use exhaustive::output::Output;
-use exhaustive::refusals::{Numbers, given};
-use exhaustive::rooms::{Rooms, Table, ample, fill_output, fill_table, lesser, put_entries};
+use exhaustive::refusals::Numbers;
+use exhaustive::rooms::{Held, Rooms, Table, filled_table, put_entries};
 use exhaustive::solver::solve_margins;
-use fields::long;
-use report::lines::{Tally, count};
-use report::same::{same_call, same_margins, same_numbers};
+use report::lines::Tally;
+use report::same::{same_call, same_items, same_numbers};
 
 // The longest run that is lent.
 pub const AMPLE_RUN: usize = 16384;
@@ -19,77 +15,56 @@ fn against(
     rooms: Rooms,
     run: usize,
     expected: Numbers,
-    table: &Table,
-    answer: &Output,
+    held: &Held,
     margins: &Table,
     tally: &mut Tally,
-)
-    requires { (rooms.work ≤ 16384) × (rooms.out ≤ 4096) }
-{
-    let mut work = [0u32; 16385];
-    let mut out = [0u8; 4096];
-    let mut numbers = [0u32; 16385];
-    fill_table(&mut work);
-    fill_output(&mut out);
-    fill_table(&mut numbers);
-    let w = rooms.work;
-    let o = rooms.out;
-    let l = lesser(run, AMPLE_RUN);
-    let r = velejume::phase_margins(block, &mut work[..w], &mut out[..o], &mut numbers[..l]);
-    let found = given(long(r.number), long(r.second));
-    count(tally, found.number);
-    if same_call(found, expected, &work, table, &out, answer, tally) {
-        same_margins(&numbers, margins, tally);
+) {
+    let mut lent = Held::new();
+    let mut numbers = filled_table();
+    let r = velejume::phase_margins(
+        block,
+        &mut lent.work[..rooms.work],
+        &mut lent.out[..rooms.out],
+        &mut numbers[..run.min(AMPLE_RUN)],
+    );
+    let found = Numbers::new(r.number as usize, r.second as usize);
+    tally.count(found.number);
+    if same_call(found, expected, &lent, held, tally) {
+        same_items("margin", &numbers, margins, tally);
     }
 }
 
 // A block against the exhaustive solver; and the two numbers of that.
-pub fn against_search(block: &[u8], rooms: Rooms, run: usize, tally: &mut Tally) -> Numbers
-    requires { (rooms.work ≤ 16384) × (rooms.out ≤ 4096) }
-{
-    let mut table = [0u32; 16385];
-    let mut answer = [0u8; 4096];
-    let mut margins = [0u32; 16385];
-    fill_table(&mut table);
-    fill_output(&mut answer);
-    fill_table(&mut margins);
-    let expected = solve_margins(block, rooms, run, &mut table, &mut answer, &mut margins);
-    against(
-        block, rooms, run, expected, &table, &answer, &margins, tally,
-    );
+pub fn against_search(block: &[u8], rooms: Rooms, run: usize, tally: &mut Tally) -> Numbers {
+    let mut held = Held::new();
+    let mut margins = filled_table();
+    let solved = solve_margins(block, rooms, run, &mut held, &mut margins);
+    let expected = Numbers::from(solved);
+    against(block, rooms, run, expected, &held, &margins, tally);
     expected
 }
 
 // A block against the exhaustive solver, which has to give the two stated numbers.
-pub fn against_numbers(block: &[u8], rooms: Rooms, run: usize, expected: Numbers, tally: &mut Tally)
-    requires { (rooms.work ≤ 16384) × (rooms.out ≤ 4096) }
-{
+pub fn against_numbers(
+    block: &[u8],
+    rooms: Rooms,
+    run: usize,
+    expected: Numbers,
+    tally: &mut Tally,
+) {
     let searched = against_search(block, rooms, run, tally);
     same_numbers(searched, expected, tally);
 }
 
 // A block against its stated margins, which the exhaustive solver has to give too, and for all else against that.
 pub fn against_stated(block: &[u8], stated: &[u32], tally: &mut Tally) {
-    let mut table = [0u32; 16385];
-    let mut answer = [0u8; 4096];
-    let mut searched = [0u32; 16385];
-    let mut margins = [0u32; 16385];
-    fill_table(&mut table);
-    fill_output(&mut answer);
-    fill_table(&mut searched);
-    fill_table(&mut margins);
+    let rooms = Rooms::ample();
+    let mut held = Held::new();
+    let mut searched = filled_table();
+    let solved = solve_margins(block, rooms, AMPLE_RUN, &mut held, &mut searched);
+    let expected = Numbers::from(solved);
+    let mut margins = filled_table();
     put_entries(&mut margins, stated);
-    let rooms = ample();
-    let expected = solve_margins(
-        block,
-        rooms,
-        AMPLE_RUN,
-        &mut table,
-        &mut answer,
-        &mut searched,
-    );
-    against(
-        block, rooms, AMPLE_RUN, expected, &table, &answer, &margins, tally,
-    );
-    same_margins(&searched, &margins, tally);
+    against(block, rooms, AMPLE_RUN, expected, &held, &margins, tally);
+    same_items("margin", &searched, &margins, tally);
 }

@@ -4,19 +4,33 @@
 
 mod examples;
 mod held;
-mod kinds;
 mod limits;
 
-use exhaustive::charge::{GENERAL, HETEROZYGOUS};
+use exhaustive::charge::Mode;
+use report::chance::some_rooms;
+use report::kinds::of_each_kind;
 use report::lines::Tally;
 
-fn in_mode(heterozygous: bool, all: &mut Tally) {
-    examples::run(heterozygous, all);
-    limits::run(heterozygous, all);
-    kinds::run(heterozygous, all);
+// What the lines of a mode begin with.
+fn called(mode: Mode) -> &'static str {
+    match mode {
+        Mode::General => "",
+        Mode::Heterozygous => "all-heterozygous ",
+    }
+}
+
+// The generated blocks are the same, in the same rooms, in both modes.
+fn in_mode(mode: Mode, all: &mut Tally) {
+    let call = called(mode);
+    examples::run(call, mode, all);
+    limits::run(call, mode, all);
+    of_each_kind(call, all, |block, chance, tally| {
+        let rooms = some_rooms(block, chance);
+        held::against_search(block, mode, rooms, tally);
+    });
 }
 
 pub fn run(all: &mut Tally) {
-    in_mode(GENERAL, all);
-    in_mode(HETEROZYGOUS, all);
+    in_mode(Mode::General, all);
+    in_mode(Mode::Heterozygous, all);
 }

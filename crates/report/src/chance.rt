@@ -1,20 +1,16 @@
 // Rooms for a block, by chance.
-ghost use Rattle.std.specs.Prelude.{◌≤◌};
-
-use cases::random::below;
-use exhaustive::rooms::{Rooms, ample, lent, less};
+use cases::random::Chance;
+use exhaustive::rooms::Rooms;
 use exhaustive::solver::measure;
 
 // Rooms that are ample, exact, one short or of any size.
-pub fn some_rooms(block: &[u8], state: &mut u32) -> Rooms
-    ensures { (result.work ≤ 16384) × (result.out ≤ 4096) }
-{
-    let s = measure(block);
-    match below(state, 8) {
-        0 => lent(s.work, s.out),
-        1 => lent(less(s.work), s.out),
-        2 => lent(s.work, less(s.out)),
-        3 => lent(below(state, 600), below(state, 60)),
-        _ => ample(),
+pub fn some_rooms(block: &[u8], chance: &mut Chance) -> Rooms {
+    let (work, out) = measure(block).map_or((0, 0), |sizes| (sizes.work, sizes.out));
+    match chance.below(8) {
+        0 => Rooms::lent(work, out),
+        1 => Rooms::lent(work.saturating_sub(1), out),
+        2 => Rooms::lent(work, out.saturating_sub(1)),
+        3 => Rooms::lent(chance.below(600), chance.below(60)),
+        _ => Rooms::ample(),
     }
 }

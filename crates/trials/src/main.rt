@@ -9,5 +9,5 @@ fn main(rt: HostRuntime) {
     margined::run(&mut all);
     converted::run(&mut all);
     judged::run(&mut all);
-    report::lines::end(&all);
+    all.end();
 }

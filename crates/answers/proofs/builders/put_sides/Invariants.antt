@@ -1,8 +1,0 @@
-use Prim.Native.Nat.{◌≤◌, ◌-◌}
-use Rattle.answers.proofs.builders.put_sides.Given as goal
-
-abbrev pub invariant-loop-r : goal.invariant-loop-r
-invariant-loop-r l = l.r ≤ l.n
-
-abbrev pub decreases-loop-r : goal.decreases-loop-r
-decreases-loop-r l = l.n - l.r

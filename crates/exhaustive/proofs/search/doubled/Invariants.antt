@@ -1,8 +1,0 @@
-use Rattle.std.proofs.Common.{◌-◌, ◌≤◌}
-use Rattle.exhaustive.proofs.search.doubled.Given as goal
-
-abbrev pub invariant-loop-i : goal.invariant-loop-i
-invariant-loop-i l = l.i ≤ l.times
-
-abbrev pub decreases-loop-i : goal.decreases-loop-i
-decreases-loop-i l = l.times - l.i

@@ -1,7 +1,0 @@
-use mathlib.Core.Path.{sym}
-use lib.Seq.{length-take-le}
-use borrow.Author.Rules.{rules}
-use Rattle.judged.proofs.held.against.Goals as goal
-
-pub slice_bounds-judge-end : goal.slice_bounds-judge-end
-slice_bounds-judge-end c = sym (length-take-le _ _ (search rules))

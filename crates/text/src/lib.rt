@@ -50,6 +50,7 @@ fn put_refusal(page: &mut Page<'_>, number: u32, second: u32)
 }
 
 // What `phase` prints for a call's two numbers and its answer block. They are numbers as `velejume::Numbers` has them: 0 accepts.
+#[tactic(auto, unfolding(crate::specs::Text::text_of))]
 fn put_text(page: &mut Page<'_>, number: u32, second: u32, answer: &[u8])
     requires whole { number ≡ 0 → Whole answer.now }
     requires in_bounds { HasRoom page.old 4096 }
@@ -63,6 +64,7 @@ fn put_text(page: &mut Page<'_>, number: u32, second: u32, answer: &[u8])
 }
 
 // The same with the margins of both haplotypes.
+#[tactic(auto, unfolding(crate::specs::Text::margin_text_of))]
 fn put_margin_text(page: &mut Page<'_>, number: u32, second: u32, answer: &[u8], margins: &[u32])
     requires whole { number ≡ 0 → Whole answer.now }
     requires answer_in_bounds { number ≡ 0 → 2 * word answer.now 15 ≤ length margins.now }

@@ -2,7 +2,7 @@
 // begins with the program's name. No contract can say what the system reads or writes.
 #![tactic(auto)]
 
-ghost use Rattle.std.specs.Prelude.{◌<◌, ◌≤◌, length, take, IfOk, IfSome};
+ghost use Rattle.std.specs.Prelude.{◌≡◌, ◌<◌, ◌≤◌, length, take, Ok, IfOk, IfSome};
 ghost use Rattle.std.specs.Io.{StartsWith};
 ghost use Rattle.std.specs.Io.KnownBytes.{Consumes, IsAtEnd};
 
@@ -66,7 +66,8 @@ fn say_failed(rt: &HostRuntime, program: &[u8], what: &[u8], error: &Error) {
 }
 
 // Reads to the end, in as many parts as it comes in, or until `room` is full: the number of bytes. Where it is known what there is to
-// read, these are its first bytes, and fewer than `room` takes only if there are no more.
+// read, these are its first bytes, and fewer than `room` takes only if there are no more. A loop by hand, since std's `read_to_end` takes a
+// heap, and there is none.
 fn read_all<R: Read>(from: &mut R, room: &mut [u8]) -> io::Result<usize>
     ensures bound { IfOk result (λ n. n ≤ length room.old) }
     ensures bytes { IfOk result (λ n. Consumes (R.remaining from.old) (R.remaining from.new) (take n room.new)) }
@@ -83,17 +84,38 @@ fn read_all<R: Read>(from: &mut R, room: &mut [u8]) -> io::Result<usize>
     Ok(done)
 }
 
-// Reads all of standard input, or as much as `room` takes: the number of bytes, or none if a read fails. Standard error then says so.
-pub fn read_input(rt: &HostRuntime, program: &[u8], room: &mut [u8]) -> Option<usize>
-    ensures { IfSome result (λ n. n ≤ length room.old) }
+// The bytes that are read so.
+fn read_bytes<'a, R: Read>(from: &mut R, room: &'a mut [u8]) -> io::Result<&'a [u8]>
+    ensures { IfOk result (λ bytes. length bytes.now ≤ length room.old) }
 {
-    match read_all(&mut rt.stdin(), room) {
-        Ok(n) => Some(n),
+    let n = read_all(from, room)?;
+    Ok(&room[..n])
+}
+
+// What was read, or none if that failed. Standard error then says so.
+fn read_or_told<'a>(
+    rt: &HostRuntime,
+    program: &[u8],
+    what: &[u8],
+    read: io::Result<&'a [u8]>,
+) -> Option<&'a [u8]>
+    ensures { IfSome result (λ bytes. read.entry ≡ Ok bytes) }
+{
+    match read {
+        Ok(bytes) => Some(bytes),
         Err(error) => {
-            say_failed(rt, program, b"standard input", &error);
+            say_failed(rt, program, what, &error);
             None
         }
     }
+}
+
+// All bytes of standard input, or as many as `room` takes; or none if a read fails. Standard error then says so.
+pub fn read_input<'a>(rt: &HostRuntime, program: &[u8], room: &'a mut [u8]) -> Option<&'a [u8]>
+    ensures { IfSome result (λ bytes. length bytes.now ≤ length room.old) }
+{
+    let read = read_bytes(&mut rt.stdin(), room);
+    read_or_told(rt, program, b"standard input", read)
 }
 
 // Opens the file that `path` names. A name is UTF-8.
@@ -104,34 +126,21 @@ fn open(rt: &HostRuntime, path: &[u8]) -> io::Result<File> {
     }
 }
 
-// Reads all of the file that `path` names, or as much as `room` takes.
-fn read_path(rt: &HostRuntime, path: &[u8], room: &mut [u8]) -> io::Result<usize>
-    ensures { IfOk result (λ n. n ≤ length room.old) }
+// All bytes of the file that `path` names, or as many as `room` takes.
+fn read_path<'a>(rt: &HostRuntime, path: &[u8], room: &'a mut [u8]) -> io::Result<&'a [u8]>
+    ensures { IfOk result (λ bytes. length bytes.now ≤ length room.old) }
 {
     let mut file = open(rt, path)?;
-    read_all(&mut file, room)
+    read_bytes(&mut file, room)
 }
 
-// The same as `read_input` for the file that `path` names.
-fn read_file(rt: &HostRuntime, program: &[u8], path: &[u8], room: &mut [u8]) -> Option<usize>
-    ensures { IfSome result (λ n. n ≤ length room.old) }
-{
-    match read_path(rt, path, room) {
-        Ok(n) => Some(n),
-        Err(error) => {
-            say_failed(rt, program, path, &error);
-            None
-        }
-    }
-}
-
-// The bytes of argument i, at the start of `room`: how many, 0 if there are more than it takes; or none if there is no such argument.
-pub fn argument(rt: &HostRuntime, i: usize, room: &mut [u8]) -> Option<usize>
-    ensures { IfSome result (λ n. n ≤ length room.old) }
+// The bytes of argument i, none of them if there are more than `room` takes; or none if there is no such argument.
+pub fn argument<'a>(rt: &HostRuntime, i: usize, room: &'a mut [u8]) -> Option<&'a [u8]>
+    ensures { IfSome result (λ bytes. length bytes.now ≤ length room.old) }
 {
     match rt.arg(i, room) {
-        Ok(n) => Some(n),
-        Err(FillError::TooLong) => Some(0),
+        Ok(n) => Some(&room[..n]),
+        Err(FillError::TooLong) => Some(&[]),
         Err(FillError::NotPresent) => None,
     }
 }
@@ -145,12 +154,17 @@ fn not_had(error: FillError) -> Error {
 }
 
 // The same as `read_input` for the file that argument i names.
-pub fn read_named(rt: &HostRuntime, program: &[u8], i: usize, room: &mut [u8]) -> Option<usize>
-    ensures { IfSome result (λ n. n ≤ length room.old) }
+pub fn read_named<'a>(
+    rt: &HostRuntime,
+    program: &[u8],
+    i: usize,
+    room: &'a mut [u8],
+) -> Option<&'a [u8]>
+    ensures { IfSome result (λ bytes. length bytes.now ≤ length room.old) }
 {
     let mut path = [0u8; 4096];
     match rt.arg(i, &mut path) {
-        Ok(n) => read_file(rt, program, &path[..n], room),
+        Ok(n) => read_or_told(rt, program, &path[..n], read_path(rt, &path[..n], room)),
         Err(error) => {
             fail(rt, program, &not_had(error));
             None

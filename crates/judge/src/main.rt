@@ -6,15 +6,13 @@
 fn print_verdict(rt: &HostRuntime, block: &[u8], answer: &[u8]) {
     let mut page = [0u8; 128];
     let n = ruling::respond(block, answer, &mut page);
-    files::print(rt, b"judge", &page[0..n]);
+    files::print(rt, b"judge", &page[..n]);
 }
 
 // Whether there are two arguments, no fewer and no more.
 fn has_two(rt: &HostRuntime) -> bool {
     let mut name = [0u8; 1];
-    let second = files::argument(rt, 2, &mut name);
-    let third = files::argument(rt, 3, &mut name);
-    second.is_some() && third.is_none()
+    files::argument(rt, 2, &mut name).is_some() && files::argument(rt, 3, &mut name).is_none()
 }
 
 // A byte more than 65,536 tells that a file is too long.
@@ -28,13 +26,13 @@ fn main(rt: HostRuntime) {
         );
         return;
     }
-    let mut block = [0u8; 65537];
-    let Some(b) = files::read_named(&rt, b"judge", 1, &mut block) else {
+    let mut room = [0u8; 65537];
+    let Some(block) = files::read_named(&rt, b"judge", 1, &mut room) else {
         return;
     };
-    let mut answer = [0u8; 65537];
-    let Some(a) = files::read_named(&rt, b"judge", 2, &mut answer) else {
+    let mut room = [0u8; 65537];
+    let Some(answer) = files::read_named(&rt, b"judge", 2, &mut room) else {
         return;
     };
-    print_verdict(&rt, &block[..b], &answer[..a]);
+    print_verdict(&rt, block, answer);
 }

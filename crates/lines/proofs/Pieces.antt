@@ -2,13 +2,15 @@
 use Prim.Native.Nat.{ℕ, ◌+◌, ◌≤◌, ◌<◌}
 use mathlib.Core.Path.{◌≡◌, refl, sym, ap, subst, ◌∙◌}
 use mathlib.Core.List.{List, [], ◌∷◌, ◌++◌, append-nil, append_assoc, map, map-append}
-use native.Mathlib.Nat.{add-zero, zero-add}
+use native.Mathlib.Nat.{add-zero}
 use native.Mathlib.Numerals.{add-one}
 use native.Mathlib.Omega.{arith}
-use lib.ListN.{length, take, drop, set, get_or, length-append, length-take, length-drop, take-append-drop}
-use lib.Seq.{set_split, take_at, drop_at, drop-drop, length-take-le, take-suc}
+use lib.ListN.{length, take, drop, get_or, length-append, length-take, length-drop, take-append-drop}
+use lib.Seq.{take_at, drop_at, drop-drop, length-take-le, take-suc}
 use Rattle.lines.specs.Line.{decimal, mark, run_text}
 use Rattle.lines.specs.Put.{Put}
+use Rattle.lines.specs.Page.{Puts}
+use Rattle.lines.specs.declared.Page.{Page}
 
 module _ {t p u : List ℕ} {at e : ℕ} (h : Put t at p u e) where
   pub put-length : length u ≡ length t
@@ -19,12 +21,6 @@ module _ {t p u : List ℕ} {at e : ℕ} (h : Put t at p u e) where
 
 pub put_none : (t : List ℕ) (at : ℕ) → at ≤ length t → Put t at [] t at
 put_none t at h = record { fits = omega arith; ends = omega arith; holds = rw (add-zero, take-append-drop) }
-
-pub put_one : (t : List ℕ) (at b : ℕ) → at + 1 ≤ length t → Put t at (b ∷ []) (set t at b) (at + 1)
-put_one t at b h = record { fits = h; ends = refl; holds = rw add-one (set_split t at b (omega arith)) }
-
-pub one_as : {t u : List ℕ} {at e b : ℕ} (d : ℕ) → b ≡ d → Put t at (b ∷ []) u e → Put t at (d ∷ []) u e
-one_as d s h = put_as h (d ∷ []) (ap (λ (x : ℕ). x ∷ []) s)
 
 -- of a front, a piece and a rest: what stands before the piece's end, and what after it
 module _ (f p r : List ℕ) (at : ℕ) (e : length f ≡ at) where
@@ -52,36 +48,49 @@ joined {t} {p} {u} {q} {v} {at} {e} {f} h k =
           ∙ rw (h.holds, h.ends, take_behind (take at t) p r at l, drop-behind (take at t) p r at l, s, drop-drop) (simp append_assoc);
     }
 
--- a piece put at the front, by any name of it: how long it is, that it fits, and what the text is
-pub front : {t p u : List ℕ} {e : ℕ} (q : List ℕ) → q ≡ p → Put t 0 p u e → (e ≡ length q) × ((e ≤ length t) × (u ≡ q ++ drop (length q) t))
-front {t} q s h =
-    let k = put_as h q (sym s) in
-    (omega (arith, k.ends), (omega (arith, k.ends, k.fits), k.holds ∙ ap (λ (n : ℕ). q ++ drop n t) (zero-add (length q))))
+-- nothing is put
+pub puts_none : (page : Page) → page.at ≤ length page.text.now → Puts page [] page
+puts_none page h = record { same_text = refl; put = put_none page.text.now page.at h }
+
+module _ {page after : Page} {piece : List ℕ} (h : Puts page piece after) where
+  pub puts-length : length after.text.now ≡ length page.text.now
+  puts-length = put-length h.put
+
+  pub puts_ends : after.at ≡ page.at + length piece
+  puts_ends = h.put.ends
+
+  pub puts_as : (q : List ℕ) → piece ≡ q → Puts page q after
+  puts_as q s = record { same_text = h.same_text; put = put_as h.put q s }
+
+-- one byte by another name of it
+pub byte_as : {page after : Page} {b : ℕ} (d : ℕ) → b ≡ d → Puts page (b ∷ []) after → Puts page (d ∷ []) after
+byte_as d s h = puts_as h (d ∷ []) (ap (λ (x : ℕ). x ∷ []) s)
+
+-- a piece, and another behind it, are one piece
+pub then_puts : {page mid after : Page} {p q : List ℕ} → Puts page p mid → Puts mid q after → Puts page (p ++ q) after
+then_puts h k = record { same_text = k.same_text ∙ h.same_text; put = joined h.put k.put }
 
 run-append : (s r : List ℕ) → run_text (s ++ r) ≡ run_text s ++ run_text r
 unfolding run_text
 run-append [] r = refl
 run-append (x ∷ s) r = rw (run-append s r, append_assoc)
 
--- one more byte of a list, one more mark, and one more number of a run
+-- one more mark, and one more number of a run
 module _ (s : List ℕ) (i : ℕ) (l : i < length s) where
-  bytes_more : take (i + 1) s ≡ take i s ++ (get_or s i 0 ∷ [])
-  bytes_more = rw (add-one, take-suc s i 0)
+  one_more : take (i + 1) s ≡ take i s ++ (get_or s i 0 ∷ [])
+  one_more = rw (add-one, take-suc s i 0)
 
   marks_more : map mark (take (i + 1) s) ≡ map mark (take i s) ++ (mark (get_or s i 0) ∷ [])
-  marks_more = rw (bytes_more, map-append)
+  marks_more = rw (one_more, map-append)
 
   run_more : run_text (take (i + 1) s) ≡ run_text (take i s) ++ (32 ∷ decimal (get_or s i 0))
   unfolding run_text
-  run_more = rw (bytes_more, run-append, append-nil)
+  run_more = rw (one_more, run-append, append-nil)
 
-  module _ {t u v : List ℕ} {at e f : ℕ} where
-    pub byte_put : Put t at (take i s) u e → Put u e (get_or s i 0 ∷ []) v f → Put t at (take (i + 1) s) v f
-    byte_put h k = put_as (joined h k) (take (i + 1) s) (sym bytes_more)
+  module _ {page mid after : Page} where
+    pub mark_puts : Puts page (map mark (take i s)) mid → Puts mid (mark (get_or s i 0) ∷ []) after → Puts page (map mark (take (i + 1) s)) after
+    mark_puts h k = puts_as (then_puts h k) (map mark (take (i + 1) s)) (sym marks_more)
 
-    pub mark-put : Put t at (map mark (take i s)) u e → Put u e (mark (get_or s i 0) ∷ []) v f → Put t at (map mark (take (i + 1) s)) v f
-    mark-put h k = put_as (joined h k) (map mark (take (i + 1) s)) (sym marks_more)
-
-    pub number_put : {w : List ℕ} {g : ℕ} → Put t at (run_text (take i s)) u e → Put u e (32 ∷ []) v f → Put v f (decimal (get_or s i 0)) w g
-        → Put t at (run_text (take (i + 1) s)) w g
-    number_put h k n = put_as (joined h (joined k n)) (run_text (take (i + 1) s)) (sym run_more)
+    pub number_puts : {last : Page} → Puts page (run_text (take i s)) mid → Puts mid (32 ∷ []) after → Puts after (decimal (get_or s i 0)) last
+        → Puts page (run_text (take (i + 1) s)) last
+    number_puts h k n = puts_as (then_puts h (then_puts k n)) (run_text (take (i + 1) s)) (sym run_more)

@@ -3,7 +3,14 @@
 
 ghost use Rattle.std.specs.Prelude.{◌≡◌, [], ◌∷◌, ◌++◌, map, ◌+◌, ◌*◌, ◌≤◌, ◌<◌, length};
 ghost use Rattle.lines.specs.Line.{decimal, mark, line, sides_word, hap1_word, hap2_word, sides_text, numbers_line, run_text};
-ghost use Rattle.lines.specs.Put.{Put};
+ghost use Rattle.lines.specs.Page.{HasRoom, Puts};
+
+// A text that is being written: each `put_..` puts its piece where the last one ended.
+#[derive(Drop)]
+pub struct Page<'a> {
+    text: &'a mut [u8],
+    at: usize,
+}
 
 // The character of a digit.
 fn digit(x: u32) -> u8
@@ -17,138 +24,146 @@ fn digit(x: u32) -> u8
 fn mark_of(x: u8) -> u8
     ensures { result ≡ mark x }
 {
-    if x == 0 {
-        return b'0';
+    match x {
+        0 => b'0',
+        1 => b'1',
+        _ => b'-',
     }
-    if x == 1 { b'1' } else { b'-' }
 }
 
-// Each `put_..` writes its piece from `at` on and answers where the piece ends.
-fn put_byte(text: &mut [u8], at: usize, b: u8) -> usize
-    requires { at + 1 ≤ length text.old }
-    ensures { Put text.old at (b ∷ []) text.new result }
-{
-    text[at] = b;
-    at + 1
-}
-
-pub fn put_bytes(text: &mut [u8], at: usize, bytes: &[u8]) -> usize
-    requires { at + length bytes.now ≤ length text.old }
-    ensures { Put text.old at bytes.now text.new result }
-{
-    let mut end = at;
-    let mut i = 0;
-    while i < bytes.len() {
-        end = put_byte(text, end, bytes[i]);
-        i += 1;
+impl<'a> Page<'a> {
+    // An empty page over this text.
+    pub fn new(text: &'a mut [u8]) -> Page<'a>
+        ensures same_text { result.text.ghost_name ≡ text.entry.ghost_name }
+        ensures now { result.text.now ≡ text.old }
+        ensures at { result.at ≡ 0 }
+    {
+        Page { text, at: 0 }
     }
-    end
-}
 
-// The sides or the letters, a character each.
-fn put_marks(text: &mut [u8], at: usize, marks: &[u8]) -> usize
-    requires { at + length marks.now ≤ length text.old }
-    ensures put { Put text.old at (map mark marks.now) text.new result }
-    ensures value { result ≡ at + length marks.now }
-{
-    let mut end = at;
-    let mut i = 0;
-    while i < marks.len() {
-        end = put_byte(text, end, mark_of(marks[i]));
-        i += 1;
+    // How much is written.
+    pub fn len(&self) -> usize
+        ensures { result ≡ self.now.at }
+    {
+        self.at
     }
-    end
-}
 
-// The digits before the last, then the last.
-fn put_decimal(text: &mut [u8], at: usize, x: u32) -> usize
-    requires { at + 10 ≤ length text.old }
-    ensures put { Put text.old at (decimal x) text.new result }
-    ensures upper_bound { result ≤ at + 10 }
-{
-    if x < 10 {
-        return put_byte(text, at, digit(x));
+    fn put_byte(&mut self, b: u8)
+        requires { HasRoom self.old 1 }
+        ensures { Puts self.old (b ∷ []) self.new }
+    {
+        self.text[self.at] = b;
+        self.at += 1;
     }
-    let last = put_decimal(text, at, x / 10);
-    put_byte(text, last, digit(x % 10))
-}
 
-pub fn put_number_line(text: &mut [u8], at: usize, name: &[u8], x: u32) -> usize
-    requires { at + length name.now + 11 ≤ length text.old }
-    ensures put { Put text.old at (line name.now (decimal x)) text.new result }
-    ensures upper_bound { result ≤ at + length name.now + 11 }
-{
-    let start = put_bytes(text, at, name);
-    let end = put_decimal(text, start, x);
-    put_byte(text, end, b'\n')
-}
-
-fn put_marks_line(text: &mut [u8], at: usize, name: &[u8], marks: &[u8]) -> usize
-    requires { at + length name.now + length marks.now + 1 ≤ length text.old }
-    ensures put { Put text.old at (line name.now (map mark marks.now)) text.new result }
-    ensures value { result ≡ at + length name.now + length marks.now + 1 }
-{
-    let start = put_bytes(text, at, name);
-    let end = put_marks(text, start, marks);
-    put_byte(text, end, b'\n')
-}
-
-pub fn put_sides_line(text: &mut [u8], at: usize, sides: &[u8]) -> usize
-    requires { at + length sides.now + 11 ≤ length text.old }
-    ensures put { Put text.old at (line sides_word (sides_text sides.now)) text.new result }
-    ensures upper_bound { result ≤ at + length sides.now + 11 }
-{
-    if sides.len() == 0 {
-        return put_bytes(text, at, b"sides none\n");
+    pub fn put_bytes(&mut self, bytes: &[u8])
+        requires { HasRoom self.old (length bytes.now) }
+        ensures { Puts self.old bytes.now self.new }
+    {
+        let end = self.at + bytes.len();
+        self.text[self.at..end].copy_from_slice(bytes);
+        self.at = end;
     }
-    put_marks_line(text, at, b"sides ", sides)
-}
 
-// The lines of both haplotypes.
-pub fn put_letters(text: &mut [u8], at: usize, first: &[u8], second: &[u8]) -> usize
-    requires { at + length first.now + length second.now + 12 ≤ length text.old }
-    ensures put { Put text.old at
-        (line hap1_word (map mark first.now) ++ line hap2_word (map mark second.now))
-        text.new result }
-    ensures value { result ≡ at + length first.now + length second.now + 12 }
-{
-    let end = put_marks_line(text, at, b"hap1 ", first);
-    put_marks_line(text, end, b"hap2 ", second)
-}
-
-// The line of a call's two numbers, behind the word for what they are.
-pub fn put_numbers(text: &mut [u8], name: &[u8], number: u32, second: u32) -> usize
-    requires { length name.now + 25 ≤ length text.old }
-    ensures put { Put text.old 0 (numbers_line name.now number second) text.new result }
-    ensures upper_bound { result ≤ length name.now + 25 }
-{
-    let start = put_bytes(text, 0, name);
-    let end = put_decimal(text, start, number);
-    put_number_line(text, end, b" at ", second)
-}
-
-// Numbers in decimal, a blank before each.
-fn put_run(text: &mut [u8], at: usize, numbers: &[u32]) -> usize
-    requires { at + 11 * length numbers.now ≤ length text.old }
-    ensures put { Put text.old at (run_text numbers.now) text.new result }
-    ensures upper_bound { result ≤ at + 11 * length numbers.now }
-{
-    let mut end = at;
-    let mut i = 0;
-    while i < numbers.len() {
-        end = put_byte(text, end, b' ');
-        end = put_decimal(text, end, numbers[i]);
-        i += 1;
+    // The sides or the letters, a character each.
+    fn put_marks(&mut self, marks: &[u8])
+        requires { HasRoom self.old (length marks.now) }
+        ensures { Puts self.old (map mark marks.now) self.new }
+    {
+        for m in marks {
+            self.put_byte(mark_of(*m));
+        }
     }
-    end
-}
 
-pub fn put_run_line(text: &mut [u8], at: usize, name: &[u8], numbers: &[u32]) -> usize
-    requires { at + length name.now + 11 * length numbers.now + 1 ≤ length text.old }
-    ensures put { Put text.old at (line name.now (run_text numbers.now)) text.new result }
-    ensures upper_bound { result ≤ at + length name.now + 11 * length numbers.now + 1 }
-{
-    let start = put_bytes(text, at, name);
-    let end = put_run(text, start, numbers);
-    put_byte(text, end, b'\n')
+    // The digits before the last, then the last.
+    fn put_decimal(&mut self, x: u32)
+        requires { HasRoom self.old 10 }
+        ensures put { Puts self.old (decimal x) self.new }
+        ensures upper_bound { self.new.at ≤ self.old.at + 10 }
+    {
+        if x < 10 {
+            self.put_byte(digit(x));
+            return;
+        }
+        self.put_decimal(x / 10);
+        self.put_byte(digit(x % 10));
+    }
+
+    pub fn put_number_line(&mut self, name: &[u8], x: u32)
+        requires { HasRoom self.old (length name.now + 11) }
+        ensures put { Puts self.old (line name.now (decimal x)) self.new }
+        ensures upper_bound { self.new.at ≤ self.old.at + length name.now + 11 }
+    {
+        self.put_bytes(name);
+        self.put_decimal(x);
+        self.put_byte(b'\n');
+    }
+
+    fn put_marks_line(&mut self, name: &[u8], marks: &[u8])
+        requires { HasRoom self.old (length name.now + length marks.now + 1) }
+        ensures put { Puts self.old (line name.now (map mark marks.now)) self.new }
+        ensures value { self.new.at ≡ self.old.at + length name.now + length marks.now + 1 }
+    {
+        self.put_bytes(name);
+        self.put_marks(marks);
+        self.put_byte(b'\n');
+    }
+
+    pub fn put_sides_line(&mut self, sides: &[u8])
+        requires { HasRoom self.old (length sides.now + 11) }
+        ensures put { Puts self.old (line sides_word (sides_text sides.now)) self.new }
+        ensures upper_bound { self.new.at ≤ self.old.at + length sides.now + 11 }
+    {
+        if sides.is_empty() {
+            self.put_bytes(b"sides none\n");
+        } else {
+            self.put_marks_line(b"sides ", sides);
+        }
+    }
+
+    // The lines of both haplotypes.
+    pub fn put_letters(&mut self, first: &[u8], second: &[u8])
+        requires { HasRoom self.old (length first.now + length second.now + 12) }
+        ensures put { Puts self.old
+            (line hap1_word (map mark first.now) ++ line hap2_word (map mark second.now))
+            self.new }
+        ensures value { self.new.at ≡ self.old.at + length first.now + length second.now + 12 }
+    {
+        self.put_marks_line(b"hap1 ", first);
+        self.put_marks_line(b"hap2 ", second);
+    }
+
+    // The line of a call's two numbers, behind the word for what they are.
+    pub fn put_numbers(&mut self, name: &[u8], number: u32, second: u32)
+        requires { HasRoom self.old (length name.now + 25) }
+        ensures put { Puts self.old (numbers_line name.now number second) self.new }
+        ensures upper_bound { self.new.at ≤ self.old.at + length name.now + 25 }
+    {
+        self.put_bytes(name);
+        self.put_decimal(number);
+        self.put_number_line(b" at ", second);
+    }
+
+    // Numbers in decimal, a blank before each. One loop for this and `put_marks` that takes a closure is no plainer: its contract would
+    // have to say what the closure puts and how much room that takes, in more lines than both loops have.
+    fn put_run(&mut self, numbers: &[u32])
+        requires { HasRoom self.old (11 * length numbers.now) }
+        ensures put { Puts self.old (run_text numbers.now) self.new }
+        ensures upper_bound { self.new.at ≤ self.old.at + 11 * length numbers.now }
+    {
+        for x in numbers {
+            self.put_byte(b' ');
+            self.put_decimal(*x);
+        }
+    }
+
+    pub fn put_run_line(&mut self, name: &[u8], numbers: &[u32])
+        requires { HasRoom self.old (length name.now + 11 * length numbers.now + 1) }
+        ensures put { Puts self.old (line name.now (run_text numbers.now)) self.new }
+        ensures upper_bound { self.new.at ≤ self.old.at + length name.now + 11 * length numbers.now + 1 }
+    {
+        self.put_bytes(name);
+        self.put_run(numbers);
+        self.put_byte(b'\n');
+    }
 }

@@ -1,36 +1,28 @@
 // What an argument of `phase` asks for.
 #![tactic(auto)]
 
-ghost use Rattle.std.specs.Prelude.{◌≡◌, true, false};
+ghost use Rattle.std.specs.Prelude.{◌≡◌, ◌≢◌, MatchOption};
 ghost use Rattle.options.specs.Words.{all_het_word, margins_word};
+ghost use Rattle.options.specs.Asked.{word_of};
 
-// Whether two runs hold the same bytes.
-fn same(a: &[u8], b: &[u8]) -> bool
-    ensures { (result ≡ true → a.now ≡ b.now) × (result ≡ false → a.now ≡ b.now → ⊥) }
-{
-    if a.len() != b.len() {
-        return false;
-    }
-    let mut i: usize = 0;
-    while i < a.len() {
-        if a[i] != b[i] {
-            return false;
+// Without an argument `phase` answers in the general mode; an argument asks for another mode, or for the margins too.
+#[derive(Clone, Copy, PartialEq, Eq, Debug)]
+pub enum Asked {
+    AllHeterozygous,
+    Margins,
+}
+
+impl Asked {
+    // What the word asks for, if it is one of the two that are known.
+    pub fn parse(word: &[u8]) -> Option<Asked>
+        ensures { MatchOption result
+            ((word.now ≢ all_het_word) × (word.now ≢ margins_word))
+            (λ asked. word.now ≡ word_of asked) }
+    {
+        match word {
+            b"--all-het" => Some(Asked::AllHeterozygous),
+            b"--margins" => Some(Asked::Margins),
+            _ => None,
         }
-        i += 1;
     }
-    true
-}
-
-// Whether the argument is `--all-het`.
-pub fn all_het(word: &[u8]) -> bool
-    ensures { (result ≡ true → word.now ≡ all_het_word) × (result ≡ false → word.now ≡ all_het_word → ⊥) }
-{
-    same(word, b"--all-het")
-}
-
-// Whether the argument is `--margins`.
-pub fn margins(word: &[u8]) -> bool
-    ensures { (result ≡ true → word.now ≡ margins_word) × (result ≡ false → word.now ≡ margins_word → ⊥) }
-{
-    same(word, b"--margins")
 }

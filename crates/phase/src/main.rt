@@ -2,6 +2,8 @@
 // haplotypes differ at every column; with `--margins` two more lines tell how sure each letter is.
 #![tactic(auto)]
 
+use options::Asked;
+
 // Says which argument is not known.
 fn unknown_argument(rt: &HostRuntime, name: &[u8]) {
     files::say(
@@ -12,49 +14,35 @@ fn unknown_argument(rt: &HostRuntime, name: &[u8]) {
     );
 }
 
-// Prints the text for this input.
-fn print_answer(rt: &HostRuntime, input: &[u8], heterozygous: bool) {
-    let mut page = [0u8; 4096];
-    let n = reply::respond(input, heterozygous, &mut page);
-    files::print(rt, b"phase", &page[0..n]);
-}
-
-// The same with the margins.
-fn print_margins(rt: &HostRuntime, input: &[u8]) {
+// Prints the text of what is asked for of this input.
+fn print_text(rt: &HostRuntime, input: &[u8], asked: Option<Asked>) {
     let mut page = [0u8; 32768];
-    let n = reply::respond_margins(input, &mut page);
-    files::print(rt, b"phase", &page[0..n]);
+    let n = reply::respond(input, asked, &mut page);
+    files::print(rt, b"phase", &page[..n]);
 }
 
-// Reads the block and prints its answer. A byte more than 65,536 tells that the input is too long.
-fn phase(rt: &HostRuntime, heterozygous: bool, margins: bool) {
-    let mut input = [0u8; 65537];
-    let Some(n) = files::read_input(rt, b"phase", &mut input) else {
-        return;
-    };
-    if margins {
-        print_margins(rt, &input[..n]);
-        return;
+// Reads the block and prints what is asked for. A byte more than 65,536 tells that the input is too long.
+fn phase(rt: &HostRuntime, asked: Option<Asked>) {
+    let mut room = [0u8; 65537];
+    if let Some(input) = files::read_input(rt, b"phase", &mut room) {
+        print_text(rt, input, asked);
     }
-    print_answer(rt, &input[..n], heterozygous);
 }
 
 // Without arguments in the general mode, with `--all-het` alone in the all-heterozygous one, with `--margins` alone with the margins.
 fn main(rt: HostRuntime) {
-    let mut name = [0u8; 4096];
-    let Some(n) = files::argument(&rt, 1, &mut name) else {
-        phase(&rt, false, false);
+    let mut room = [0u8; 4096];
+    let Some(word) = files::argument(&rt, 1, &mut room) else {
+        phase(&rt, None);
         return;
     };
-    let heterozygous = options::all_het(&name[..n]);
-    let margins = options::margins(&name[..n]);
-    if !heterozygous && !margins {
-        unknown_argument(&rt, &name[..n]);
+    let Some(asked) = Asked::parse(word) else {
+        unknown_argument(&rt, word);
+        return;
+    };
+    if let Some(other) = files::argument(&rt, 2, &mut room) {
+        unknown_argument(&rt, other);
         return;
     }
-    if let Some(k) = files::argument(&rt, 2, &mut name) {
-        unknown_argument(&rt, &name[..k]);
-        return;
-    }
-    phase(&rt, heterozygous, margins);
+    phase(&rt, Some(asked));
 }

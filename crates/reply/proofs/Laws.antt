@@ -8,9 +8,9 @@ use lib.Dec.{eqb}
 use borrow.Author.Tests.{eqb-true, eqb-false, lt-ltb, le-ltb}
 use Rattle.meaning.specs.Numbers.{word}
 use Rattle.meaning.specs.Block.{latest, matrix_of}
-use Rattle.meaning.specs.Letters.{Mode, mode_of}
+use Rattle.meaning.specs.Letters.{Mode, general, heterozygous}
 use Rattle.meaning.specs.Refusals.{refusal}
-use Rattle.meaning.specs.Call.{Result, refuses, call_with}
+use Rattle.meaning.specs.Call.{Result, over, refuses, call_with}
 use Rattle.meaning.specs.Margins.{margin_size, margin_call_with, margin_call}
 use Rattle.meaning.proofs.Formed.{Accepted, accepted}
 use Rattle.meaning.proofs.Call.{call-refuses}
@@ -18,7 +18,11 @@ use Rattle.text.specs.Text.{refusal_text, text_of, margin_text_of}
 use Rattle.text.specs.Put.{Whole}
 use Rattle.text.proofs.Accepted.{accepted_whole}
 use Rattle.text.proofs.Margins.{margins_only, margins-whole, margins-run}
+use Rattle.std.specs.Prelude.{Option, None, Some}
+use Rattle.options.specs.declared.Asked.{Asked}
+use Rattle.options.specs.declared.Asked.TheVariants.{AllHeterozygous, Margins}
 use Rattle.reply.specs.Printed.{lent, printed, lent_margins, printed_margins}
+use Rattle.reply.specs.Asked.{printed_for}
 
 module _ (mode : Mode) (b work out : List ℕ) where
   -- number 0 is given only on acceptance, and the output then starts with the answer block
@@ -33,15 +37,6 @@ module _ (mode : Mode) (b work out : List ℕ) where
       go false e =
           let n : (refusal latest b (length work) (length out)).number ≡ 0 → ⊥ = eqb-false _ 0 e in
           absurd (n (sym (ap (λ (x : Result). x.number) (call-refuses mode latest b work out n)) ∙ z))
-
--- a call by its parts is the call in the mode of the flag
-pub phased_as : (b t : Bool) (input work out : List ℕ) (done r : Result) → b ≡ t → done ≡ call_with (mode_of t) latest input work out
-    → (r.number ≡ done.number) × ((r.second ≡ done.second) × ((r.work ≡ done.work) × (r.out ≡ done.out)))
-    → r ≡ call_with (mode_of b) latest input work out
-phased_as b t input work out done r e is h =
-    (λ i. record { number = h.0 i; second = h.1.0 i; work = h.1.1.0 i; out = h.1.1.1 i })
-    ∙ is
-    ∙ ap (λ (x : Bool). call_with (mode_of x) latest input work out) (sym e)
 
 pub printed-long : (mode : Mode) (input : List ℕ) → 65536 < length input → printed mode input ≡ refusal_text 12 65536
 unfolding printed
@@ -80,3 +75,14 @@ unfolding printed_margins
 margins-call input l =
     ap (λ (t : Bool). cond t (refusal_text 12 65536) (margin_text_of (lent_margins input).number (lent_margins input).second (lent_margins input).out (lent_margins input).margins))
     (le-ltb 65536 (length input) l)
+
+-- an input that is too long, whatever is asked for
+pub long : (asked : Option Asked) (input : List ℕ) → 65536 < length input → refusal_text 12 65536 ≡ printed_for asked input
+long None input l = sym (printed-long general input l)
+long (Some AllHeterozygous) input l = sym (printed-long heterozygous input l)
+long (Some Margins) input l = sym (margins-long input l)
+
+-- a text at the start of the page, by another name of it
+pub at_start : (page : List ℕ) {p q after : List ℕ} {n : ℕ} → p ≡ q → n ≡ length p → n ≤ length page → after ≡ over p page
+    → ((n ≡ length q) × (n ≤ length page)) × (after ≡ over q page)
+at_start page s l b e = ((l ∙ ap length s, b), e ∙ ap (λ (x : List ℕ). over x page) s)

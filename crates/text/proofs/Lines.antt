@@ -1,13 +1,11 @@
--- An answer block's five lines and how long they are, and the two of the margins. Assumes nothing.
-use Prim.Native.Nat.{ℕ, ◌+◌, ◌-◌, ◌≤◌}
+-- An answer block's five lines, and the two of the margins. Assumes nothing.
+use Prim.Native.Nat.{ℕ, ◌+◌, ◌-◌}
 use mathlib.Core.Path.{◌≡◌}
 use mathlib.Core.List.{List, ◌++◌, map}
 use native.Mathlib.Nat.{add-sub_cancel_left}
-use native.Mathlib.Omega.{arith}
-use lib.ListN.{length, take, drop, length-take}
+use lib.ListN.{take, drop}
 use Rattle.meaning.specs.Numbers.{word, long}
 use Rattle.lines.specs.Line.{decimal, mark, line, sides_word, hap1_word, hap2_word, sides_text, margin1_word, margin2_word, run_text}
-use Rattle.text.specs.Put.{Whole}
 use Rattle.text.specs.Text.{cost_word, flips_word, answer_text, margins_text}
 
 -- the sides and the letters as the code's parts of the block have them
@@ -20,24 +18,6 @@ pub answer_is : (b : List ℕ) (n m x y : ℕ) → n ≡ word b 13 → m ≡ wor
     ≡ answer_text b
 unfolding answer_text
 answer_is b n m x y en em ex ey = simp add-sub_cancel_left (rw (en, em, ex, ey))
-
-pub few : (k : ℕ) (s : List ℕ) → length (take k s) ≤ k
-few k s = omega (arith, length-take k s)
-
--- where the sides and the letters end, behind the lines of two numbers
-pub answer-ends : (b : List ℕ) (n m a c e : ℕ) → Whole b → n ≡ word b 13 → m ≡ word b 15 → a ≤ 33
-    → c ≤ a + length (take (17 + n - 17) (drop 17 b)) + 11
-    → e ≡ c + length (take (17 + n + m - (17 + n)) (drop (17 + n) b)) + length (take (17 + n + m + m - (17 + n + m)) (drop (17 + n + m) b)) + 12
-    → e ≤ 4096
-answer-ends b n m a c e h hn hm ha hc he =
-    omega (
-      arith,
-      h.reads,
-      h.columns,
-      few (17 + n - 17) (drop 17 b),
-      few (17 + n + m - (17 + n)) (drop (17 + n) b),
-      few (17 + n + m + m - (17 + n + m)) (drop (17 + n + m) b),
-    )
 
 -- the margins as the code's parts of the run have them
 pub margins_is : (b s : List ℕ) (m : ℕ) → m ≡ word b 15

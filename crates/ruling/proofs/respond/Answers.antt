@@ -22,12 +22,6 @@ returns-then-block-gt65536 c =
 pub slice_bounds-judge-end : goal.slice_bounds-judge-end
 slice_bounds-judge-end c = sym (length-replicate {A = ℕ} _ 0)
 
-pub write_verdict-requires-2 : goal.write_verdict-requires-2
-write_verdict-requires-2 c = c.requires
-
-pub shape_of-page : goal.shape_of-page
-shape_of-page c = c.write_verdict-2.auto.text
-
 pub returns : goal.returns
 returns c =
     let f = c.judge-r.ensures in

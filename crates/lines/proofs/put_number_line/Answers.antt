@@ -1,6 +1,0 @@
-use borrow.Author.Rules.{rules}
-use Rattle.lines.proofs.Pieces.{joined}
-use Rattle.lines.proofs.put_number_line.Goals as goal
-
-pub returns : goal.returns
-returns c = record { put = joined c.put_bytes-start.ensures (joined c.put_decimal-end.ensures.put c.put_byte.ensures); upper_bound = search rules }

@@ -1,15 +1,14 @@
--- Shifts of 1, and stores into a list.
-use Prim.Native.Nat.{ℕ, suc, ◌+◌, ◌*◌, ◌%◌, ◌^◌, ◌≤◌, ◌<◌}
+-- Shifts of 1, and a store into a list.
+use Prim.Native.Nat.{ℕ, ◌*◌, ◌%◌, ◌^◌, ◌<◌}
 use borrow.Author.Tests.{eqb-true, eqb-false}
 use lib.Dec.{eqb}
-use lib.ListN.{length, get_or, set, get_or-eq_default}
+use lib.ListN.{length, get_or, set}
 use lib.Pow.{shl_exact}
 use lib.Seq.{get_or-set_same, get_or-set_other}
 use mathlib.Core.Bool.{Bool, true, false}
 use mathlib.Core.List.{List}
 use mathlib.Core.Logic.{◌≢◌}
 use mathlib.Core.Path.{◌≡◌, refl, ◌∙◌}
-use native.Mathlib.Decide.{dec_le}
 use native.Mathlib.Nat.{one-mul}
 use native.Mathlib.Omega.{arith}
 
@@ -23,15 +22,3 @@ stored_at l k v g lt e j h = go (eqb j k) refl
     go : (b : Bool) → eqb j k ≡ b → get_or (set l k v) j 0 ≡ g j
     go true t = let z : j ≡ k = eqb-true j k t in rw z (get_or-set_same l k v 0 lt ∙ e)
     go false t = let ne : j ≢ k = eqb-false j k t in get_or-set_other l k j v 0 ne ∙ h ne
-
--- a store at k, where the list is g's below k
-pub stored : (l : List ℕ) (k v : ℕ) (g : ℕ → ℕ) → k < length l → ((j : ℕ) → j < k → get_or l j 0 ≡ g j) → v ≡ g k → (j : ℕ) → j < k + 1 → get_or (set l k v) j 0 ≡ g j
-stored l k v g lt h e j lj = stored_at l k v g lt e j (λ ne. h j (omega arith))
-
--- all places before n are 0, and behind n there is nothing
-pub all_zero_lem : (l : List ℕ) (n : ℕ) → length l ≤ n → ((r : ℕ) → r < n → get_or l r 0 ≡ 0) → (r : ℕ) → get_or l r 0 ≡ 0
-all_zero_lem l n h z r = go (dec_le (suc r) n)
-  where
-    go : Dec (r < n) → get_or l r 0 ≡ 0
-    go (yes k) = z r k
-    go (no k) = get_or-eq_default l 0 (omega arith)

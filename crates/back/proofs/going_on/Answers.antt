@@ -1,7 +1,6 @@
 use Prim.Native.Nat.{◌+◌}
 use native.Mathlib.Omega.{arith}
-use mathlib.Core.Path.{◌≡◌, sym, ap, ◌∙◌}
-use Rattle.layout.specs.Places.{end_at}
+use mathlib.Core.Path.{◌≡◌}
 use Rattle.fold.proofs.Count.{count_none}
 use Rattle.back.proofs.GoingOn.{goes_on, on_more, rest_closes}
 use Rattle.back.proofs.going_on.Invariants.{ends}
@@ -14,11 +13,10 @@ pub returns-then-end-after : goal.returns-then-end-after
 returns-then-end-after c =
     let a = c.args in
     let i = c.loop-i.i in
-    let closes : ends a.list.now a.places.now i ≡ a.j + 1 = sym (c.end_of-end.ensures ∙ ap (end_at a.places.now) c.from.ensures) ∙ c.if-end-after.true in
+    let closes : ends a.list.now a.places.now i ≡ a.j + 1 = rw c.from.ensures at c.if-end-after.true in
     rest_closes (ends a.list.now a.places.now) (a.j + 1) a.p c.requires.by_index_2 i closes (omega arith) c.loop-i.invariant
 
 pub loop-i-preserved : goal.loop-i-preserved
 loop-i-preserved c =
     let a = c.args in
-    let ended : c.end_of-end.result ≡ ends a.list.now a.places.now c.loop-i.i = c.end_of-end.ensures ∙ ap (end_at a.places.now) c.from.ensures in
-    on_more (ends a.list.now a.places.now) (a.j + 1) c.loop-i.i c.loop-i.invariant (λ e. c.if-end-after.false (ended ∙ e))
+    on_more (ends a.list.now a.places.now) (a.j + 1) c.loop-i.i c.loop-i.invariant (rw c.from.ensures at c.if-end-after.false)

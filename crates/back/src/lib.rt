@@ -34,13 +34,10 @@ pub fn going_on(list: &[u16], p: usize, places: &[Place], j: usize) -> usize
     ensures { result ≡ sum_to p (λ i. bit (not (eqb (end_at places.now (get_or list.now i 0)) (j + 1)))) }
 {
     let after = j + 1;
-    for i in 0..p {
-        let end = places[usize::from(list[i])].end as usize;
-        if end == after {
-            return i;
-        }
-    }
-    p
+    list[..p]
+        .iter()
+        .position(|&r| places[usize::from(r)].end as usize == after)
+        .unwrap_or(p)
 }
 
 // The side of the i-th read of the list.

@@ -124,6 +124,7 @@ pub fn places(reads: &Reads<'_>, places: &mut [Place])
     ensures { Noted reads.now.shape reads.now.bytes.now places.new }
 {
     let mut at: usize = 0;
+    // a loop over `&mut places[..n]` is no shorter, and its proof is longer
     for r in 0..reads.shape.n {
         let read = read_at(reads, at);
         places[r] = Place {

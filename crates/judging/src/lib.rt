@@ -41,7 +41,14 @@ fn sized(
         lists,
     };
     let e = 4 * shape.m;
-    let v = verdict::judged(&listed, t, work, &mut scratch[..e], answer, &mut sides[..shape.n]);
+    let v = verdict::judged(
+        &listed,
+        t,
+        work,
+        &mut scratch[..e],
+        answer,
+        &mut sides[..shape.n],
+    );
     Ok(v)
 }
 

@@ -38,7 +38,15 @@ fn solved_in<const PLACES: usize, const LISTS: usize, const SCRATCH: usize>(
     let mut places = [0u32; PLACES];
     let mut lists = [0u16; LISTS];
     let mut scratch = [0u32; SCRATCH];
-    solve::solve(reads, heterozygous, work, out, &mut places, &mut lists, &mut scratch)
+    solve::solve(
+        reads,
+        heterozygous,
+        work,
+        out,
+        &mut places,
+        &mut lists,
+        &mut scratch,
+    )
 }
 
 // The solver with as much room as the reads need.
@@ -72,7 +80,15 @@ fn margined_in<const PLACES: usize, const LISTS: usize, const SCRATCH: usize>(
     let mut places = [0u32; PLACES];
     let mut lists = [0u16; LISTS];
     let mut scratch = [0u32; SCRATCH];
-    margins::solve(reads, work, out, margins, &mut places, &mut lists, &mut scratch)
+    margins::solve(
+        reads,
+        work,
+        out,
+        margins,
+        &mut places,
+        &mut lists,
+        &mut scratch,
+    )
 }
 
 // The solver that gives the margins too, with as much room as the reads need.

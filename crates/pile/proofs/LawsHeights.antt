@@ -18,7 +18,7 @@ use Rattle.meaning.specs.Active.{count, read, active, active_count, most_active}
 use Rattle.meaning.specs.Refusals.{Numbers, passed, crowded}
 use Rattle.meaning.proofs.Totals.{sum_ext, sum_bound, max_above}
 use Rattle.layout.specs.declared.runs.Column.{Column}
-use Rattle.layout.specs.Lists.{no_column, count_at}
+use Rattle.layout.specs.Lists.{no_reads, count_at}
 use Rattle.pile.specs.Spans.{within, spans, height_at, Spanned}
 use Rattle.pile.proofs.LawsSpans.{Passes, within_none, within_past, within_in, within_else, within_all}
 
@@ -32,10 +32,10 @@ pub count_set : (lists : List Column) (c : ℕ) (column : Column) (g : ℕ → �
 count_set lists c column g l e j h = go (eqb j c) refl
   where
     go : (b : Bool) → eqb j c ≡ b → count_at (set lists c column) j ≡ g j
-    go true t = rw (eqb-true j c t) (ap (λ (x : Column). x.count) (get_or-set_same lists c column no_column l) ∙ e)
+    go true t = rw (eqb-true j c t) (ap (λ (x : Column). x.count) (get_or-set_same lists c column no_reads l) ∙ e)
     go false t =
         let ne : j ≢ c = eqb-false j c t in
-        ap (λ (x : Column). x.count) (get_or-set_other lists c j column no_column ne) ∙ h ne
+        ap (λ (x : Column). x.count) (get_or-set_other lists c j column no_reads ne) ∙ h ne
 
 -- one more in the count of each column of a span: what a loop over it has done at column c
 abbrev pub Raised : (ℕ → ℕ) → ℕ → ℕ → (ℕ → ℕ) → Type 0

@@ -45,7 +45,10 @@ module _ (shape : Shape) (reads : List ℕ) (places : List Place) (lists : List 
     listed i k = ap (λ (x : Column). get_or x.reads i 0) here ∙ listed_at shape reads places lists ready j l i k
 
     pub list-fits : (p ≤ 12) × (p ≤ length col.reads)
-    list-fits = (omega (arith, height_is, ready.piled.few j l), omega (arith, height_is, listed-fits shape reads places lists ready j l, ap (λ (x : Column). length x.reads) here))
+    list-fits = (
+      omega (arith, height_is, ready.piled.few j l),
+      omega (arith, height_is, listed-fits shape reads places lists ready j l, ap (λ (x : Column). length x.reads) here),
+    )
 
     pub list_read : (i : ℕ) → i < p → get_or col.reads i 0 < shape.n
     list_read i k =

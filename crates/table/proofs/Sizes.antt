@@ -29,8 +29,12 @@ unfolding max_to
 max-below zero c f h = zero-le
 max-below (suc n) c f h = let a : max_to n f ≤ c = max-below n c f (λ i l. h i (omega arith)) in let b : f n ≤ c = h n (omega arith) in omega arith
 
--- what the code reads of a column that is there is what the definitions say of it
-pub column_read : (lists : List Column) (j : ℕ) → j < length lists → get_or lists j (record { count = 0; reads = [] }) ≡ get_or lists j no_reads
+-- column j as the code reads it
+abbrev pub column_at : List Column → ℕ → Column
+column_at lists j = get_or lists j (record { count = 0; reads = [] })
+
+-- a column that is there is what the definitions say of it
+pub column_read : (lists : List Column) (j : ℕ) → j < length lists → column_at lists j ≡ get_or lists j no_reads
 column_read lists j l = get_or_default lists j _ no_reads l
 
 module _ (shape : Shape) (reads : List ℕ) (places : List Place) (lists : List Column) (ready : Ready shape reads places lists) where

@@ -17,7 +17,8 @@ use Rattle.cells.proofs.Cells.{taken_cell, here_listed}
 use Rattle.cells.proofs.prepare.Goals as goal
 
 -- fewer than 12 digits are set before the read, and it sets one at most
-few_seen : (shares : ℕ → Bool) (t : Bool) {seen i p b : ℕ} → seen ≡ shared_to shares i → i < p → p ≤ 12 → b ≡ bool_byte t → (seen < 12) × (b ≤ 1)
+few_seen : (shares : ℕ → Bool) (t : Bool) {seen i p b : ℕ} → seen ≡ shared_to shares i → i < p → p ≤ 12 → b ≡ bool_byte t
+    → (seen < 12) × (b ≤ 1)
 few_seen shares t {seen} {i} e l h s = omega (arith, e, count_le shares i, s, byte_bit t, bit_lt t)
 
 pub loop-i-init : goal.loop-i-init
@@ -51,11 +52,13 @@ weights-x-requires c =
 
 pub own-requires : goal.own-requires
 own-requires c =
-    omega (arith, few_seen (starts_before (first_at c.args.placed.now.places.now) c.args.list.now c.args.j) _ c.loop-i.invariant.2.count c.loop-i-test.true c.requires.few c.from-b.ensures)
+    let shares = starts_before (first_at c.args.placed.now.places.now) c.args.list.now c.args.j in
+    omega (arith, few_seen shares _ c.loop-i.invariant.2.count c.loop-i-test.true c.requires.few c.from-b.ensures)
 
 pub overflow_add-seen : goal.overflow_add-seen
 overflow_add-seen c =
-    omega (arith, few_seen (starts_before (first_at c.args.placed.now.places.now) c.args.list.now c.args.j) _ c.loop-i.invariant.2.count c.loop-i-test.true c.requires.few c.from-b.ensures)
+    let shares = starts_before (first_at c.args.placed.now.places.now) c.args.list.now c.args.j in
+    omega (arith, few_seen shares _ c.loop-i.invariant.2.count c.loop-i-test.true c.requires.few c.from-b.ensures)
 
 pub loop-i-preserved : goal.loop-i-preserved
 loop-i-preserved c =

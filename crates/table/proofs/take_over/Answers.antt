@@ -2,15 +2,15 @@ use native.Mathlib.Omega.{arith}
 use Prim.Native.Nat.{ℕ, suc, ◌-◌, ◌*◌, ◌/◌, ◌≤◌, ◌<◌}
 use mathlib.Core.Path.{◌≡◌, sym, ap, ◌∙◌, subst}
 use native.Mathlib.Nat.{le_trans}
-use mathlib.Core.List.{List, []}
-use lib.ListN.{length, get_or, take, drop}
+use mathlib.Core.List.{List}
+use lib.ListN.{length, take, drop}
 use lib.Pow.{pow_pos}
 use lib.Seq.{get_or-set_same}
 use Rattle.meaning.specs.Active.{used}
 use Rattle.meaning.specs.Rule.{least_at}
 use Rattle.layout.specs.declared.runs.Column.{Column}
 use Rattle.layout.specs.Lists.{count_at}
-use Rattle.table.proofs.Sizes.{column_read}
+use Rattle.table.proofs.Sizes.{column_at, column_read}
 use Rattle.table.proofs.Handed.{carry_fits, handed_on, handed_none, handed_next}
 use mathlib.Core.Logic.{◌≢◌}
 use Rattle.table.specs.Taken.{Handing}
@@ -28,7 +28,7 @@ listed : {lists : List Column} {j t s : ℕ} {work taken : List ℕ} → Handing
 listed h n = h.listed (omega (arith, n))
 
 before_column : {lists : List Column} {j t s q : ℕ} {work taken : List ℕ} → Handing lists j t s work taken → j ≢ 0
-    → q ≡ (get_or lists (j - 1) (record { count = 0; reads = [] })).count → Before lists j t s q work
+    → q ≡ (column_at lists (j - 1)).count → Before lists j t s q work
 before_column {lists} {j} {t} {s} {q} {work} h n e =
     let p : 0 < j = omega (arith, n) in
     let c : q ≡ count_at lists (j - 1) = e ∙ ap (λ (x : Column). x.count) (column_read lists (j - 1) (h.listed p)) in

@@ -2,22 +2,40 @@
 use Prim.Native.Nat.{ℕ, zero, suc, ◌+◌, ◌-◌, ◌≤◌, ◌<◌}
 use borrow.Author.Tests.{eq-eqb, ne_eqb}
 use lib.Dec.{eqb}
+use lib.ListN.{length, get_or, take}
+use lib.Seq.{length-take-le, get_or-take}
 use mathlib.Core.Bool.{Bool, not}
+use mathlib.Core.List.{List}
 use mathlib.Core.Logic.{◌≢◌}
 use mathlib.Core.Path.{◌≡◌, sym, ap, ◌∙◌}
 use native.Mathlib.Nat.{add-zero}
 use native.Mathlib.Omega.{arith}
+use Rattle.std.specs.List.{AllWithin, HoldsAt}
+use Rattle.std.specs.Prelude.{Option, Some, None}
+use Rattle.std.specs.Option.{MatchOption, unwrap_or}
+use Rattle.std.proofs.lemmas.Grind.{get_or_default_zero}
 use Rattle.fold.specs.Turn.{shared_to}
-use Rattle.fold.proofs.Count.{count_yes, count_no}
+use Rattle.fold.proofs.Count.{count_none, count_yes, count_no}
+
+-- a read from the first p places of a list whose reads are all below n
+pub listed_below : (list : List ℕ) (p n : ℕ) → p ≤ length list → ((i : ℕ) → i < p → get_or list i 0 < n)
+    → (r k : ℕ) → k < length (take p list) → r ≡ get_or (take p list) k r → r < n
+listed_below list p n l each r k m e =
+    let b : k < p = omega (arith, length-take-le p list l) in
+    rw (e ∙ get_or-take p list k r b ∙ get_or_default_zero list k r (omega arith)) (each k b)
 
 -- the end of the i-th read is `ends i`; it goes on where that is not `after`
 module _ (ends : ℕ → ℕ) (after : ℕ) where
   abbrev pub goes_on : ℕ → Bool
   goes_on i = not (eqb (ends i) after)
 
-  -- one more read goes on
-  pub on_more : (i : ℕ) → shared_to goes_on i ≡ i → ends i ≢ after → shared_to goes_on (i + 1) ≡ i + 1
-  on_more i h ne = count_yes goes_on i (ap not (ne_eqb (ends i) after ne)) ∙ ap (λ (n : ℕ). n + 1) h
+  -- before the first that closes all go on
+  on_all : (n : ℕ) → ((k : ℕ) → k < n → ends k ≢ after) → n ≡ shared_to goes_on n
+  on_all zero h = sym (count_none goes_on)
+  on_all (suc n) h =
+      let before : n ≡ shared_to goes_on n = on_all n (λ k l. h k (omega arith)) in
+      let next : suc n ≡ n + 1 = omega arith in
+      next ∙ ap (λ (x : ℕ). x + 1) before ∙ sym (count_yes goes_on n (ap not (ne_eqb (ends n) after (h n (omega arith))))) ∙ ap (shared_to goes_on) (sym next)
 
   -- from a read that closes on all close
   module _ (p : ℕ) (order : (i : ℕ) → i + 1 < p → ends i ≡ after → ends (i + 1) ≡ after) (i : ℕ) (e : ends i ≡ after) where
@@ -31,5 +49,19 @@ module _ (ends : ℕ → ℕ) (after : ℕ) where
           ap (shared_to goes_on) next ∙ count_no goes_on (i + n) (ap not (eq-eqb (ends (i + n)) after closes)) ∙ h.1,
         )
 
-    pub rest_closes : i ≤ p → shared_to goes_on i ≡ i → i ≡ shared_to goes_on p
-    rest_closes l h = let whole : i + (p - i) ≡ p = omega arith in sym (ap (shared_to goes_on) (sym whole) ∙ (closing (p - i) (omega arith)).1 ∙ h)
+    rest_closes : i ≤ p → i ≡ shared_to goes_on i → i ≡ shared_to goes_on p
+    rest_closes l h = let whole : i + (p - i) ≡ p = omega arith in h ∙ sym (ap (shared_to goes_on) (sym whole) ∙ (closing (p - i) (omega arith)).1)
+
+-- so the place of the first that closes, p if none does, is how many go on
+pub goes_until : (list : List ℕ) (p : ℕ) → p ≤ length list → (end : ℕ → ℕ) (after : ℕ)
+    → ((i : ℕ) → i + 1 < p → end (get_or list i 0) ≡ after → end (get_or list (i + 1) 0) ≡ after) → (r : Option ℕ)
+    → MatchOption r (AllWithin (λ q. end q ≢ after) (take p list) 0 (length (take p list)))
+    (λ i. (i < length (take p list)) × HoldsAt (λ q. end q ≡ after) (take p list) i × AllWithin (λ q. end q ≢ after) (take p list) 0 i)
+    → unwrap_or r p ≡ shared_to (goes_on (λ i. end (get_or list i 0)) after) p
+goes_until list p l end after order None h =
+    let n : length (take p list) ≡ p = length-take-le p list l in
+    on_all (λ i. end (get_or list i 0)) after p (λ k m. rw (sym (get_or-take p list k 0 m)) (h k 0 (omega arith) (omega arith)))
+goes_until list p l end after order (Some i) h =
+    let m : i < p = omega (arith, h.0, length-take-le p list l) in
+    rest_closes (λ i. end (get_or list i 0)) after p order i (ap end (sym (get_or-take p list i 0 m)) ∙ h.1 0) (omega arith)
+    (on_all (λ i. end (get_or list i 0)) after i (λ k b. rw (sym (get_or-take p list k 0 (omega arith))) (h.2 k 0 (omega arith) b)))

@@ -10,6 +10,8 @@ ghost use Rattle.meaning.specs.Answer.{division_of};
 ghost use Rattle.layout.specs.Places.{end_at};
 ghost use Rattle.back.specs.Sides.{next_side, settled};
 
+use layout::Place;
+
 // The least of the entries from, from + step, .. of a column.
 pub fn least_from(col: &[u32], from: usize, step: usize) -> u32
     requires step_nonzero { (0 < step) × (from < step) }
@@ -24,21 +26,18 @@ pub fn least_from(col: &[u32], from: usize, step: usize) -> u32
 }
 
 // How many of the first p reads of the list go on after column j: their last cell is not in it. Those that close there stand behind them.
-pub fn going_on(list: &[u16], p: usize, places: &[u32], j: usize) -> usize
+pub fn going_on(list: &[u16], p: usize, places: &[Place], j: usize) -> usize
     requires p_bound { (p ≤ 12) × (p ≤ length list.now) × (j < 1024) }
-    requires by_index { (i : ℕ) → i < p → 3 * get_or list.now i 0 + 2 < length places.now }
+    requires by_index { (i : ℕ) → i < p → get_or list.now i 0 < length places.now }
     requires by_index_2 { (i : ℕ) → i + 1 < p → end_at places.now (get_or list.now i 0) ≡ j + 1
         → end_at places.now (get_or list.now (i + 1) 0) ≡ j + 1 }
     ensures { result ≡ sum_to p (λ i. bit (not (eqb (end_at places.now (get_or list.now i 0)) (j + 1)))) }
 {
     let after = j + 1;
-    for i in 0..p {
-        let end = layout::end_of(places, usize::from(list[i]));
-        if end == after {
-            return i;
-        }
-    }
-    p
+    list[..p]
+        .iter()
+        .position(|&r| places[usize::from(r)].end as usize == after)
+        .unwrap_or(p)
 }
 
 // The side of the i-th read of the list.

@@ -9,6 +9,7 @@ use Rattle.meaning.specs.Block.{cell_at}
 use Rattle.meaning.specs.Active.{read, at}
 use Rattle.meaning.specs.Refusals.{bad_cell}
 use Rattle.meaning.proofs.Closing.{active-cells}
+use Rattle.layout.specs.declared.runs.Place.{Place}
 use Rattle.layout.specs.declared.shape.Shape.{Shape}
 use Rattle.layout.specs.declared.reads.Placed.{Placed}
 use Rattle.layout.specs.Reads.{matrix_in}
@@ -39,12 +40,8 @@ module _ (placed : Placed) {list : List ℕ} {p j : ℕ} (laid : Laid placed lis
   abbrev reads : List ℕ
   reads = placed.reads.bytes.now
 
-  abbrev places : List ℕ
+  abbrev places : List Place
   places = placed.places.now
-
-  -- the i-th read of the list has its three numbers
-  pub listed-room : 3 * get_or list i 0 + 2 < length places
-  listed-room = omega (arith, laid.each_read i l, placed.noted.room)
 
   here : Here s reads (get_or list i 0) j (start_at places (get_or list i 0)) (first_at places (get_or list i 0)) (end_at places (get_or list i 0))
   here =
@@ -64,7 +61,6 @@ module _ (placed : Placed) {list : List ℕ} {p j : ℕ} (laid : Laid placed lis
         cell-at = cut_cell c j from to;
       }
 
-  -- by the numbers that are read of it
-  pub here_listed : (r x from to : ℕ) → r ≡ get_or list i 0 → x ≡ start_at places r → from ≡ first_at places r → to ≡ end_at places r
-      → Here s reads (get_or list i 0) j x from to
-  here_listed r x from to er ex ef et = rw (ex, ef, et, er) here
+  -- by the number that is read of it
+  pub here_listed : {r : ℕ} → r ≡ get_or list i 0 → Here s reads (get_or list i 0) j (start_at places r) (first_at places r) (end_at places r)
+  here_listed e = rw e here

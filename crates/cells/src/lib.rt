@@ -50,9 +50,10 @@ pub fn prepare(
     let mut head: usize = 0;
     for i in 0..p {
         let r = usize::from(list[i]);
-        let a = layout::start_of(places, r);
-        let f = layout::first_of(places, r);
-        let e = a + shape.size * (layout::end_of(places, r) - f);
+        let place = places[r];
+        let a = place.start as usize;
+        let f = place.first as usize;
+        let e = a + shape.size * (place.end as usize - f);
         // its cells begin at its first column
         let x = weights(shape, &bytes[a..e], j - f);
         w[i] = x;

@@ -9,21 +9,21 @@ ghost use Rattle.ready.specs.Piling.{ThinColumns};
 ghost use Rattle.solve.specs.Rooms.{Rooms};
 ghost use Rattle.verdict.specs.Verdicts.{judged_of};
 
-use layout::{Listed, Placed, Reads};
+use layout::{Column, Listed, Place, Placed, Reads};
 use refusal::Refusal;
 use verdict::Verdict;
 
 // The check 10, then the table and the verdict. `t` is T.
 fn sized(
     placed: &Placed,
-    lists: &mut [u16],
+    lists: &mut [Column],
     t: usize,
     scratch: &mut [u32],
     work: &mut [u32],
     answer: &[u8],
     sides: &mut [u8],
 ) -> Result<Verdict, Refusal>
-    requires lists_room { 13 * placed.now.reads.shape.m ≤ length lists.old }
+    requires lists_room { placed.now.reads.shape.m ≤ length lists.old }
     requires thin_columns { ThinColumns (matrix_of placed.now.reads) t }
     requires n_in_bounds { (used (min placed.now.reads.shape.n 12) ≤ length scratch.old)
         × (4 * placed.now.reads.shape.m ≤ length scratch.old) × (placed.now.reads.shape.n ≤ length sides.old) }
@@ -58,8 +58,8 @@ pub fn judge(
     reads: &Reads,
     answer: &[u8],
     work: &mut [u32],
-    places: &mut [u32],
-    lists: &mut [u16],
+    places: &mut [Place],
+    lists: &mut [Column],
     scratch: &mut [u32],
     sides: &mut [u8],
 ) -> Result<Verdict, Refusal>

@@ -13,6 +13,7 @@ use Rattle.meaning.specs.Active.{read, end, at}
 use Rattle.meaning.specs.Refusals.{bad_cell, bad_cells}
 use Rattle.meaning.proofs.Lists.{get_or-run}
 use Rattle.meaning.proofs.Refusals.{or_false_left}
+use Rattle.layout.specs.declared.runs.Place.{Place}
 use Rattle.layout.specs.declared.shape.Shape.{Shape}
 use Rattle.layout.specs.Reads.{matrix_in, Lawful}
 use Rattle.layout.specs.Places.{start_at, first_at, end_at, cells_start, Noted, read_from}
@@ -63,7 +64,7 @@ cut s reads lawful r l at from to ea ef et =
     ends-behind = omega arith
 
 -- as the run of places says
-pub cut_noted : {s : Shape} {reads places : List ℕ} → Lawful s reads → Noted s reads places → (r : ℕ) → r < s.n
+pub cut_noted : {s : Shape} {reads : List ℕ} {places : List Place} → Lawful s reads → Noted s reads places → (r : ℕ) → r < s.n
     → Cut s reads r (start_at places r) (first_at places r) (end_at places r)
 cut_noted {s} {reads} lawful noted r l = cut s reads lawful r l _ _ _ (noted.starts r l) (noted.firsts r l) (noted.ends r l)
 

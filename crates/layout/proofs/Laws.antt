@@ -18,6 +18,8 @@ use Rattle.meaning.proofs.Closing.{Placed, length-active}
 use Rattle.meaning.proofs.Bounds.{Light, Bytes, reads-light}
 use Rattle.meaning.proofs.Formed.{sound_placed, length-reads, get_or-reads, end_of, sound-end}
 use Rattle.meaning.proofs.Refusals.{or_false_left, or_false_right}
+use Rattle.layout.specs.declared.runs.Place.{Place}
+use Rattle.layout.specs.declared.runs.Column.{Column}
 use Rattle.layout.specs.declared.shape.Shape.{Shape}
 use Rattle.layout.specs.Cells.{CellSize}
 use Rattle.layout.specs.Reads.{matrix_in, Lawful}
@@ -142,6 +144,6 @@ pub lawful-light : (s : Shape) (reads : List ℕ) → Lawful s reads → Bytes r
 lawful-light s reads lawful bytes r j = le_trans (reads-light s.size s.n reads bytes r j) (heaviest s.size lawful.cell)
 
 -- reads that are ready have twelve active reads at most
-pub ready-thin : (s : Shape) (reads places lists : List ℕ) → Ready s reads places lists → Thin (matrix_in s reads)
+pub ready-thin : (s : Shape) (reads : List ℕ) (places : List Place) (lists : List Column) → Ready s reads places lists → Thin (matrix_in s reads)
 ready-thin s reads places lists ready j l =
     le_trans (le_of_eq (sym (length-active (matrix_in s reads) (lawful_placed s reads ready.lawful) j))) (ready.piled.few j l)

@@ -1,14 +1,15 @@
-// What the layers share: numbers of two and four bytes, the shape of the reads that lie in a part of bytes, and how the lent runs are laid out.
+// What the layers share: numbers of two and four bytes, the shape of the reads that lie in a part of bytes, and what the lent runs hold.
 #![tactic(auto)]
 
-ghost use Rattle.std.specs.Prelude.{◌≡◌, ◌+◌, ◌-◌, ◌*◌, ◌/◌, ◌≤◌, ◌<◌, length};
-ghost use Rattle.meaning.specs.Numbers.{big_endian, word, long};
-ghost use Rattle.layout.specs.Places.{start_at, first_at, end_at};
+ghost use Rattle.std.specs.Prelude.{◌≡◌, ◌+◌, ◌≤◌, ◌<◌, length};
+ghost use Rattle.meaning.specs.Numbers.{word, long};
 
 mod reads;
+mod runs;
 mod shape;
 
 pub use reads::{Listed, Placed, Reads};
+pub use runs::{Column, NO_READS, NOWHERE, Place};
 pub use shape::Shape;
 
 // The big-endian number of the two bytes from `at` on.
@@ -27,28 +28,4 @@ pub fn long_at(b: &[u8], at: usize) -> usize
     ensures { (result ≡ long b.now at) × (result < 4294967296) }
 {
     word_at(b, at) * 65536 + word_at(b, at + 2)
-}
-
-// Where the cells of read r start.
-pub fn start_of(places: &[u32], r: usize) -> usize
-    requires { 3 * r + 2 < length places.now }
-    ensures { result ≡ start_at places.now r }
-{
-    places[3 * r] as usize
-}
-
-// Its first column.
-pub fn first_of(places: &[u32], r: usize) -> usize
-    requires { 3 * r + 2 < length places.now }
-    ensures { result ≡ first_at places.now r }
-{
-    places[3 * r + 1] as usize
-}
-
-// The column after its last.
-pub fn end_of(places: &[u32], r: usize) -> usize
-    requires { 3 * r + 2 < length places.now }
-    ensures { result ≡ end_at places.now r }
-{
-    places[3 * r + 2] as usize
 }

@@ -5,7 +5,7 @@ ghost use Rattle.layout.specs.Reads.{Lawful};
 ghost use Rattle.layout.specs.Places.{Noted};
 ghost use Rattle.layout.specs.Ready.{Ready};
 
-use crate::Shape;
+use crate::{Column, Place, Shape};
 
 // Reads that pass the checks 1 to 7, and the bytes in which they lie.
 #[derive(Clone, Copy)]
@@ -20,7 +20,7 @@ pub struct Reads<'a> {
 #[derive(Clone, Copy)]
 pub struct Placed<'a> {
     pub reads: Reads<'a>,
-    pub places: &'a [u32],
+    pub places: &'a [Place],
     ghost noted: { Noted reads.shape reads.bytes.now places.now },
 }
 
@@ -28,8 +28,8 @@ pub struct Placed<'a> {
 #[derive(Clone, Copy)]
 pub struct Listed<'a> {
     pub reads: Reads<'a>,
-    pub places: &'a [u32],
-    pub lists: &'a [u16],
+    pub places: &'a [Place],
+    pub lists: &'a [Column],
     ghost ready: { Ready reads.shape reads.bytes.now places.now lists.now },
 }
 

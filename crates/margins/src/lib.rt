@@ -14,7 +14,7 @@ ghost use Rattle.solve.specs.Rooms.{Rooms};
 ghost use Rattle.refusal.specs.declared.Refusal.TheVariants.{Output, Margins};
 ghost use Rattle.margins.specs.Outcomes.{result_of};
 
-use layout::{Placed, Reads};
+use layout::{Column, Place, Placed, Reads};
 use refusal::Refusal;
 
 // The margins of m columns, read off a tally: haplotype 1's first.
@@ -31,10 +31,10 @@ fn write_margins(m: usize, tally: &[u32], margins: &mut [u32])
 }
 
 // The margins of the division whose sides stand in the output. The last two runs are room to work in.
-fn margined(reads: &Reads, out: &[u8], margins: &mut [u32], places: &mut [u32], tally: &mut [u32])
+fn margined(reads: &Reads, out: &[u8], margins: &mut [u32], places: &mut [Place], tally: &mut [u32])
     requires thin { Thin (matrix_of reads.now) }
     requires n_in_bounds { (17 + reads.now.shape.n ≤ length out.now) × (2 * reads.now.shape.m ≤ length margins.old) }
-    requires n_in_bounds_2 { (3 * reads.now.shape.n ≤ length places.old) × (4 * reads.now.shape.m ≤ length tally.old) }
+    requires n_in_bounds_2 { (reads.now.shape.n ≤ length places.old) × (4 * reads.now.shape.m ≤ length tally.old) }
     ensures { margins.new
         ≡ over (margins_of (matrix_of reads.now) (division_in reads.now.shape.n out.now)) margins.old }
 {
@@ -72,8 +72,8 @@ fn refused(
     reads: &Reads,
     out: &[u8],
     work: &mut [u32],
-    places: &mut [u32],
-    lists: &mut [u16],
+    places: &mut [Place],
+    lists: &mut [Column],
     scratch: &mut [u32],
 ) -> Result<u32, Refusal>
     requires { Rooms reads.now.shape places.old lists.old scratch.old }
@@ -95,8 +95,8 @@ pub fn solve(
     work: &mut [u32],
     out: &mut [u8],
     margins: &mut [u32],
-    places: &mut [u32],
-    lists: &mut [u16],
+    places: &mut [Place],
+    lists: &mut [Column],
     scratch: &mut [u32],
 ) -> Result<u32, Refusal>
     requires { Rooms reads.now.shape places.old lists.old scratch.old }

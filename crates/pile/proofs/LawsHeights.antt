@@ -1,5 +1,5 @@
 -- How many reads are active at each column, and refusal 9. Assumes nothing.
-use Prim.Native.Nat.{ℕ, zero, suc, ◌+◌, ◌-◌, ◌*◌, ◌≤◌, ◌<◌, max, zero-le}
+use Prim.Native.Nat.{ℕ, zero, suc, ◌+◌, ◌-◌, ◌≤◌, ◌<◌, max, zero-le}
 use mathlib.Core.Bool.{Bool, true, false, cond}
 use mathlib.Core.List.{List}
 use mathlib.Core.Logic.{◌≢◌}
@@ -9,14 +9,16 @@ use native.Mathlib.Numerals.{add-one}
 use native.Mathlib.Omega.{arith}
 use borrow.Author.Tests.{eqb-true, eqb-false, lt-ltb, le-ltb}
 use lib.Dec.{ltb, eqb}
-use lib.ListN.{length, set}
-use lib.Seq.{get_or-set_same, get_or-set_other}
+use lib.ListN.{length, get_or, take, set}
+use lib.Seq.{get_or-take, get_or-set_same, get_or-set_other}
+use Rattle.std.proofs.lemmas.List.{length-take}
 use Rattle.meaning.specs.Numbers.{bit, sum_to, max_to}
 use Rattle.meaning.specs.Block.{Matrix}
 use Rattle.meaning.specs.Active.{count, read, active, active_count, most_active}
 use Rattle.meaning.specs.Refusals.{Numbers, passed, crowded}
 use Rattle.meaning.proofs.Totals.{sum_ext, sum_bound, max_above}
-use Rattle.layout.specs.Lists.{count_at}
+use Rattle.layout.specs.declared.runs.Column.{Column}
+use Rattle.layout.specs.Lists.{no_reads, count_at}
 use Rattle.pile.specs.Spans.{within, spans, height_at, Spanned}
 use Rattle.pile.proofs.LawsSpans.{Passes, within_none, within_past, within_in, within_else, within_all}
 
@@ -24,16 +26,16 @@ bit_le : (b : Bool) → bit b ≤ 1
 bit_le true = omega arith
 bit_le false = omega arith
 
--- column c's count is set, and the others are g's already
-pub count_set : (lists : List ℕ) (c v : ℕ) (g : ℕ → ℕ) → 13 * c < length lists → v ≡ g c
-    → (j : ℕ) → (j ≢ c → count_at lists j ≡ g j) → count_at (set lists (13 * c) v) j ≡ g j
-count_set lists c v g l e j h = go (eqb j c) refl
+-- a column comes for column c, and the others' counts are g's already
+pub count_set : (lists : List Column) (c : ℕ) (column : Column) (g : ℕ → ℕ) → c < length lists → column.count ≡ g c
+    → (j : ℕ) → (j ≢ c → count_at lists j ≡ g j) → count_at (set lists c column) j ≡ g j
+count_set lists c column g l e j h = go (eqb j c) refl
   where
-    go : (b : Bool) → eqb j c ≡ b → count_at (set lists (13 * c) v) j ≡ g j
-    go true t = rw (eqb-true j c t) (get_or-set_same lists (13 * c) v 0 l ∙ e)
+    go : (b : Bool) → eqb j c ≡ b → count_at (set lists c column) j ≡ g j
+    go true t = rw (eqb-true j c t) (ap (λ (x : Column). x.count) (get_or-set_same lists c column no_reads l) ∙ e)
     go false t =
         let ne : j ≢ c = eqb-false j c t in
-        get_or-set_other lists (13 * c) (13 * j) v 0 (λ z. ne (omega arith)) ∙ h ne
+        ap (λ (x : Column). x.count) (get_or-set_other lists c j column no_reads ne) ∙ h ne
 
 -- one more in the count of each column of a span: what a loop over it has done at column c
 abbrev pub Raised : (ℕ → ℕ) → ℕ → ℕ → (ℕ → ℕ) → Type 0
@@ -45,11 +47,11 @@ raised_none before from j = omega (arith, ap bit (within_none from from j (omega
 pub raised_here : (before after : ℕ → ℕ) (from c : ℕ) → Raised before from c after → after c ≡ before c
 raised_here before after from c h = omega (arith, h c, ap bit (within_past from c c (omega arith)))
 
-pub raised_more : (before : ℕ → ℕ) (lists : List ℕ) (from c : ℕ) → from ≤ c → 13 * c < length lists
-    → Raised before from c (count_at lists) → Raised before from (c + 1) (count_at (set lists (13 * c) (count_at lists c + 1)))
-raised_more before lists from c f l h j =
-    count_set lists c (count_at lists c + 1) (λ i. before i + bit (within from (c + 1) i)) l
-    (omega (arith, raised_here before (count_at lists) from c h, ap bit (within_in from (c + 1) c f (omega arith))))
+pub raised_more : (before : ℕ → ℕ) (lists : List Column) (from c : ℕ) (column : Column) → from ≤ c → c < length lists
+    → column.count ≡ count_at lists c + 1 → Raised before from c (count_at lists) → Raised before from (c + 1) (count_at (set lists c column))
+raised_more before lists from c column f l e h j =
+    count_set lists c column (λ i. before i + bit (within from (c + 1) i)) l
+    (omega (arith, e, raised_here before (count_at lists) from c h, ap bit (within_in from (c + 1) c f (omega arith))))
     j
     (λ ne. h j ∙ ap (λ (b : Bool). before j + bit b) (sym (within_else from c j ne)))
 
@@ -68,7 +70,7 @@ module _ (first ends : ℕ → ℕ) where
 
   -- one read more
   pub heights_more : (r k from to : ℕ) (before after : ℕ → ℕ) → from ≡ first r → to ≡ ends r → Raised before from to after
-      → ((j : ℕ) → 13 * j < k → before j ≡ height_at first ends r j) → (j : ℕ) → 13 * j < k → after j ≡ height_at first ends (r + 1) j
+      → ((j : ℕ) → j < k → before j ≡ height_at first ends r j) → (j : ℕ) → j < k → after j ≡ height_at first ends (r + 1) j
   heights_more r k from to before after f t h g j l =
       h j
       ∙ ap₂ (λ (x y : ℕ). before j + bit (within x y j)) f t
@@ -78,6 +80,14 @@ module _ (first ends : ℕ → ℕ) where
   pub height_le : (n j : ℕ) → height_at first ends n j ≤ n
   unfolding height_at
   height_le n j = let h = sum_bound n 1 {f = λ r. bit (spans first ends r j)} (λ r l. bit_le (spans first ends r j)) in omega arith
+
+-- an item among the first n of a run is one of the run's
+pub record Taken {A : Type 0} (n : ℕ) (items : List A) (i : ℕ) : Type 0 where
+  pub inside : i < n
+  pub same : (d : A) → get_or (take n items) i d ≡ get_or items i d
+
+pub taken : {A : Type 0} (n : ℕ) (items : List A) (i : ℕ) → i < length (take n items) → Taken n items i
+taken n items i h = let l : i < n = omega (arith, length-take n items) in record { inside = l; same = λ d. get_or-take n items i d l }
 
 -- the search for the first column with more than 12 has come to column j
 pub record Searched (count : ℕ → ℕ) (m most j : ℕ) : Type 0 where

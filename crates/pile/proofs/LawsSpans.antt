@@ -6,7 +6,6 @@ use mathlib.Core.Path.{◌≡◌, refl, sym, ap, ap₂, ◌∙◌}
 use native.Mathlib.Omega.{arith}
 use borrow.Author.Tests.{leb-true, leb-false, ltb-true, ltb-false, le-leb, lt-ltb, le-ltb}
 use lib.Dec.{leb, ltb}
-use Rattle.meaning.proofs.Lists.{and_left, and_right}
 use Rattle.pile.specs.Spans.{within}
 
 -- where a loop from `from` to `to` stands, also where there is nothing to pass
@@ -40,11 +39,6 @@ module _ (from : ℕ) where
       go : (b : Bool) → ltb j c ≡ b → (leb from j && ltb j (c + 1)) ≡ (leb from j && ltb j c)
       go true e = ap (λ (b : Bool). leb from j && b) (lt-ltb j (c + 1) (omega (arith, ltb-true j c e)) ∙ sym e)
       go false e = ap (λ (b : Bool). leb from j && b) (le-ltb j (c + 1) (omega (arith, ltb-false j c e)) ∙ sym e)
-
-  pub within_wider : (c to j : ℕ) → c ≤ to → within from c j ≡ true → within from to j ≡ true
-  within_wider c to j h w =
-      within_in to j (leb-true from j (and_left (leb from j) (ltb j c) w))
-      (omega (arith, ltb-true j c (and_right (leb from j) (ltb j c) w)))
 
   pub within_all : (to c j : ℕ) → Passes from to c → to ≤ c → within from c j ≡ within from to j
   within_all to c j p h = go (leb from to) refl

@@ -1,6 +1,5 @@
 pub mod LawsSpans
 pub mod LawsHeights
 pub mod LawsInsert
-pub mod LawsParts
 pub mod LawsLists
 pub mod LawsClosing

@@ -9,7 +9,7 @@ ghost use Rattle.reads.specs.Search.{head_fault, HeadPlace, SearchEnd};
 ghost use Rattle.reads.specs.Cells.{faulty_cell};
 ghost use Rattle.reads.specs.Lying.{Starts, Lies};
 
-use layout::{Reads, Shape};
+use layout::{Place, Reads, Shape};
 use refusal::Refusal;
 
 // Where a read's cells start and end.
@@ -118,18 +118,20 @@ pub fn read_at(reads: &Reads<'_>, at: usize) -> Lying
     }
 }
 
-// Where each read's cells start, its first column, and the column after its last.
-pub fn places(reads: &Reads<'_>, places: &mut [u32])
-    requires { 3 * reads.now.shape.n ≤ length places.old }
+// Where each read lies.
+pub fn places(reads: &Reads<'_>, places: &mut [Place])
+    requires { reads.now.shape.n ≤ length places.old }
     ensures { Noted reads.now.shape reads.now.bytes.now places.new }
 {
     let mut at: usize = 0;
+    // a loop over `&mut places[..n]` is no shorter, and its proof is longer
     for r in 0..reads.shape.n {
         let read = read_at(reads, at);
-        let k = 3 * r;
-        places[k] = read.start as u32;
-        places[k + 1] = read.first as u32;
-        places[k + 2] = (read.first + read.count) as u32;
+        places[r] = Place {
+            start: read.start as u32,
+            first: read.first as u32,
+            end: (read.first + read.count) as u32,
+        };
         at = read.next;
     }
 }

@@ -14,11 +14,14 @@ use Rattle.meaning.specs.Refusals.{Numbers, crowded}
 use Rattle.meaning.proofs.Totals.{sum_bound}
 use Rattle.meaning.proofs.Closing.{length-active}
 use Rattle.meaning.proofs.Closing as closing
+use Rattle.layout.specs.declared.runs.Place.{Place}
+use Rattle.layout.specs.declared.runs.Column.{Column}
 use Rattle.layout.specs.declared.shape.Shape.{Shape}
+use Rattle.layout.specs.declared.reads.Reads.{Reads}
 use Rattle.layout.specs.declared.reads.Placed.{Placed}
 use Rattle.layout.specs.Reads.{matrix_in}
 use Rattle.layout.specs.Matrices.{matrix_of}
-use Rattle.layout.specs.Places.{first_at, end_at}
+use Rattle.layout.specs.Places.{first_at, end_at, Noted}
 use Rattle.layout.specs.Lists.{Holds}
 use Rattle.layout.specs.Ready.{Ready}
 use Rattle.layout.proofs.Laws.{count_is, lawful_placed}
@@ -47,7 +50,12 @@ table_fits s reads t h =
     let y : s.m * t ≤ 1024 * 2048 = mul-le-mul s.few_columns w in
     omega arith
 
-module _ (s : Shape) (reads places lists : List ℕ) (p : Piling s reads places lists) where
+-- lawful reads whose places are noted
+pub piling : (reads : Reads) {places : List Place} {lists : List Column} → Noted reads.shape reads.bytes.now places
+    → reads.shape.m ≤ length lists → Piling reads.shape reads.bytes.now places lists
+piling reads noted room = record { lawful = reads.lawful; noted = noted; room = room }
+
+module _ (s : Shape) (reads : List ℕ) (places : List Place) (lists : List Column) (p : Piling s reads places lists) where
   abbrev M : Matrix
   M = matrix_in s reads
 
@@ -70,7 +78,7 @@ module _ (s : Shape) (reads places lists : List ℕ) (p : Piling s reads places 
   ends-inside r l = le_trans (le_of_eq (p.noted.ends r l)) (placed r (subst (λ (x : ℕ). r < x) (sym (count_is s reads)) l))
 
   -- with other lists in a room of the same size
-  pub piling_lists : (lists' : List ℕ) → length lists' ≡ length lists → Piling s reads places lists'
+  pub piling_lists : (lists' : List Column) → length lists' ≡ length lists → Piling s reads places lists'
   piling_lists lists' e = record { lawful = p.lawful; noted = p.noted; room = omega (arith, e, p.room) }
 
   -- 9 and T, from the heights
@@ -95,7 +103,7 @@ module _ (s : Shape) (reads places lists : List ℕ) (p : Piling s reads places 
     heights_few j l = le_trans (le_of_eq (height_active j)) (h.thin j l)
 
     -- what the lists say makes the reads ready
-    pub piled-ready : (lists' : List ℕ) → length lists' ≡ length lists
+    pub piled-ready : (lists' : List Column) → length lists' ≡ length lists
         → ((j : ℕ) → j < s.m → Holds lists' j (list_at (first_at places) (end_at places) s.n j)) → Ready s reads places lists'
     piled-ready lists' e holds =
         record {
@@ -112,9 +120,9 @@ module _ (s : Shape) (reads places lists : List ℕ) (p : Piling s reads places 
         }
 
 -- once their lists are made placed reads are ready
-pub listed_ready : (p : Placed) (lists : List ℕ) → 13 * p.reads.shape.m ≤ length lists → (t : ℕ) → ThinColumns (matrix_of p.reads) t
-    → (lists' : List ℕ) → length lists' ≡ length lists
+pub listed_ready : (p : Placed) (lists : List Column) → p.reads.shape.m ≤ length lists → (t : ℕ) → ThinColumns (matrix_of p.reads) t
+    → (lists' : List Column) → length lists' ≡ length lists
     → ((j : ℕ) → j < p.reads.shape.m → Holds lists' j (list_at (first_at p.places.now) (end_at p.places.now) p.reads.shape.n j))
     → Ready p.reads.shape p.reads.bytes.now p.places.now lists'
 listed_ready p lists room t h lists' e holds =
-    piled-ready p.reads.shape p.reads.bytes.now p.places.now lists (record { lawful = p.reads.lawful; noted = p.noted; room = room }) t h lists' e holds
+    piled-ready p.reads.shape p.reads.bytes.now p.places.now lists (piling p.reads p.noted room) t h lists' e holds

@@ -1,8 +1,10 @@
 -- What is known of the reads before the columns' lists are made.
-use Rattle.std.specs.Prelude.{ℕ, ◌*◌, ◌≤◌, ◌<◌, ◌≡◌, List, length, Result, Ok, Err}
+use Rattle.std.specs.Prelude.{ℕ, ◌≤◌, ◌<◌, ◌≡◌, List, length, Result, Ok, Err}
 use Rattle.meaning.specs.Block.{Matrix}
 use Rattle.meaning.specs.Active.{active_count, entries}
 use Rattle.meaning.specs.Refusals.{crowded}
+use Rattle.layout.specs.declared.runs.Place.{Place}
+use Rattle.layout.specs.declared.runs.Column.{Column}
 use Rattle.layout.specs.declared.shape.Shape.{Shape}
 use Rattle.layout.specs.Reads.{Lawful}
 use Rattle.layout.specs.Places.{Noted}
@@ -10,10 +12,10 @@ use Rattle.refusal.specs.declared.Refusal.{Refusal}
 use Rattle.refusal.specs.Numbers.{refusal_numbers}
 
 -- lawful reads, where they lie, and room for the lists
-pub record Piling (s : Shape) (reads places lists : List ℕ) : Type 0 where
+pub record Piling (s : Shape) (reads : List ℕ) (places : List Place) (lists : List Column) : Type 0 where
   pub lawful : Lawful s reads
   pub noted : Noted s reads places
-  pub room : 13 * s.m ≤ length lists
+  pub room : s.m ≤ length lists
 
 -- check 9 passes, and t is T
 pub record ThinColumns (M : Matrix) (t : ℕ) : Type 0 where

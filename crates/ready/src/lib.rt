@@ -1,22 +1,23 @@
 // From lawful reads to their table: where each read lies, check 9, each column's list, the table.
 #![tactic(auto)]
 
-ghost use Rattle.std.specs.Prelude.{◌≡◌, ◌*◌, ◌≤◌, min, length, replicate};
+ghost use Rattle.std.specs.Prelude.{◌≡◌, ◌*◌, ◌≤◌, min, length};
 ghost use Rattle.meaning.specs.Active.{used};
 ghost use Rattle.meaning.specs.Letters.{charge_in, mode_of};
 ghost use Rattle.meaning.specs.Table.{table};
 ghost use Rattle.meaning.specs.Call.{over};
 ghost use Rattle.layout.specs.Matrices.{matrix_of};
+ghost use Rattle.layout.specs.Lists.{Unlisted};
 ghost use Rattle.layout.specs.Ready.{Ready};
 ghost use Rattle.ready.specs.Piling.{Piling, ThinColumns, ColumnsFound};
 
-use layout::{Listed, Placed, Reads};
+use layout::{Column, Listed, Place, Placed, Reads};
 use refusal::Refusal;
 
 // Where the reads lie; then check 9, the first column that has more than 12 active reads, or T.
-pub fn piled(reads: &Reads, places: &mut [u32], lists: &mut [u16]) -> Result<usize, Refusal>
-    requires n_in_bounds { (3 * reads.now.shape.n ≤ length places.old) × (13 * reads.now.shape.m ≤ length lists.old) }
-    requires lists_value { lists.old ≡ replicate (length lists.old) 0 }
+pub fn piled(reads: &Reads, places: &mut [Place], lists: &mut [Column]) -> Result<usize, Refusal>
+    requires n_in_bounds { (reads.now.shape.n ≤ length places.old) × (reads.now.shape.m ≤ length lists.old) }
+    requires unlisted { Unlisted lists.old }
     ensures piling { Piling reads.now.shape reads.now.bytes.now places.new lists.new }
     ensures columns_found { ColumnsFound (matrix_of reads.now) result }
 {
@@ -30,13 +31,13 @@ pub fn piled(reads: &Reads, places: &mut [u32], lists: &mut [u16]) -> Result<usi
 // The columns' lists, and the table of the mode. `t` is T; `taken` is room for what a column takes over.
 pub fn tabled(
     placed: &Placed,
-    lists: &mut [u16],
+    lists: &mut [Column],
     t: usize,
     heterozygous: bool,
     taken: &mut [u32],
     work: &mut [u32],
 )
-    requires lists_room { 13 * placed.now.reads.shape.m ≤ length lists.old }
+    requires lists_room { placed.now.reads.shape.m ≤ length lists.old }
     requires thin_columns { ThinColumns (matrix_of placed.now.reads) t }
     requires n_in_bounds { (used (min placed.now.reads.shape.n 12) ≤ length taken.old)
         × (placed.now.reads.shape.m * t ≤ length work.old) }

@@ -7,7 +7,7 @@ use mathlib.Core.Logic.{◌≢◌}
 use native.Mathlib.Numerals.{add-one}
 use native.Mathlib.Omega.{arith}
 use lib.ListN.{length, get_or, take, drop, length-drop}
-use lib.Seq.{get_or-take, length-take-le, drop_at, take-take}
+use lib.Seq.{get_or-take, length-take-le, drop_at}
 use lib.Dec.{eqb}
 use borrow.Author.Tests.{eq-eqb, ne_eqb}
 use Rattle.meaning.specs.Numbers.{bit, sum_to, has}
@@ -23,14 +23,16 @@ use Rattle.meaning.proofs.Least.{first_ext}
 use Rattle.meaning.proofs.Closing.{active_split, active-cells, active_is, active_lt, ends_at, distinct_active}
 use Rattle.meaning.proofs.Index.{index-used}
 use Rattle.column.proofs.Join.{sum_places}
+use Rattle.layout.specs.declared.runs.Place.{Place}
+use Rattle.layout.specs.declared.runs.Column.{Column}
 use Rattle.layout.specs.declared.shape.Shape.{Shape}
 use Rattle.layout.specs.Reads.{matrix_in}
 use Rattle.layout.specs.Places.{end_at}
-use Rattle.layout.specs.Lists.{count_at}
+use Rattle.layout.specs.Lists.{no_reads, reads_at}
 use Rattle.layout.specs.Ready.{Ready}
 use Rattle.layout.proofs.Laws.{count_is}
 use Rattle.table.proofs.Sizes.{column_sizes}
-use Rattle.table.proofs.Columns.{list_part, part_listed, list-fits, height_is}
+use Rattle.table.proofs.Columns.{listed, height_is}
 
 sum-append : (xs ys : List ℕ) (f : ℕ → ℕ) → sum_over (xs ++ ys) f ≡ sum_over xs f + sum_over ys f
 sum-append [] ys f = omega arith
@@ -78,61 +80,57 @@ next_closes M j l =
     subst (λ (x : List ℕ). (i : ℕ) → suc i < length x → end (read M (get_or x i 0)) ≡ suc j → end (read M (get_or x (suc i) 0)) ≡ suc j) (sym (active_split M j l))
     (next_has (shared_reads M j) (closing_at M j) (λ q. end (read M q)) (suc j) (shared_goes M j) (ends_at M j))
 
-module _ (shape : Shape) (reads places lists : List ℕ) (ready : Ready shape reads places lists) where
+module _ (shape : Shape) (reads : List ℕ) (places : List Place) (lists : List Column) (ready : Ready shape reads places lists) where
   abbrev M : Matrix
   M = matrix_in shape reads
 
   ends_are : (r : ℕ) → r < count M → end_at places r ≡ end (read M r)
   ends_are r l = ready.noted.ends r (subst (λ (n : ℕ). r < n) (count_is shape reads) l)
 
-  module _ (j : ℕ) (l : j < shape.m) (p : ℕ) (q : p ≡ count_at lists j) where
+  module _ (j : ℕ) (l : j < shape.m) (col : Column) (here : col ≡ get_or lists j no_reads) (p : ℕ) (q : p ≡ col.count) where
     -- the list's first p places are the column's active reads
-    pub list_is : take p (list_part shape reads places lists ready j) ≡ active_reads M j
-    list_is =
-        let f : p ≤ 12 = (list-fits shape reads places lists ready j l p q).0 in
-        take-take p (13 * j + 1 + 12 - (13 * j + 1)) (drop (13 * j + 1) lists) (omega arith)
-        ∙ ap (λ (n : ℕ). take n (drop (13 * j + 1) lists)) (height_is shape reads places lists ready j l p q)
-        ∙ (ready.piled.holds j l).listed
+    pub list_is : take p col.reads ≡ active_reads M j
+    list_is = ap (λ (x : Column). take p x.reads) here ∙ ap (λ (n : ℕ). take n (reads_at lists j)) (height_is shape reads places lists ready j l col here p q) ∙ (ready.piled.holds j l).listed
 
     -- the ends that the list's reads have
-    ends-listed : (i : ℕ) → i < length (active_reads M j) → end_at places (get_or (list_part shape reads places lists ready j) i 0) ≡ end (read M (get_or (active_reads M j) i 0))
+    ends-listed : (i : ℕ) → i < length (active_reads M j) → end_at places (get_or col.reads i 0) ≡ end (read M (get_or (active_reads M j) i 0))
     ends-listed i k =
         let r : ℕ = get_or (active_reads M j) i 0 in
-        ap (λ (x : ℕ). end_at places x) (part_listed shape reads places lists ready j l i k) ∙ ends_are r (active_lt M j r (has-get_or (active_reads M j) i k))
+        ap (λ (x : ℕ). end_at places x) (listed shape reads places lists ready j l col here p q i k) ∙ ends_are r (active_lt M j r (has-get_or (active_reads M j) i k))
 
     -- those that close stand behind those that go on
-    pub closes_behind : (i : ℕ) → i + 1 < p → end_at places (get_or (list_part shape reads places lists ready j) i 0) ≡ j + 1
-        → end_at places (get_or (list_part shape reads places lists ready j) (i + 1) 0) ≡ j + 1
+    pub closes_behind : (i : ℕ) → i + 1 < p → end_at places (get_or col.reads i 0) ≡ j + 1
+        → end_at places (get_or col.reads (i + 1) 0) ≡ j + 1
     closes_behind i k h =
-        let many : p ≡ length (active_reads M j) = height_is shape reads places lists ready j l p q in
-        ap (λ (n : ℕ). end_at places (get_or (list_part shape reads places lists ready j) n 0)) (add-one i)
+        let many : p ≡ length (active_reads M j) = height_is shape reads places lists ready j l col here p q in
+        ap (λ (n : ℕ). end_at places (get_or col.reads n 0)) (add-one i)
         ∙ ends-listed (suc i) (omega arith)
         ∙ next_closes M j l i (omega arith) (sym (ends-listed i (omega arith)) ∙ h ∙ add-one j)
         ∙ sym (add-one j)
 
     -- those that go on are the shared reads
-    pub going_is : (s : ℕ) → s ≡ sum_to p (λ i. bit (not (eqb (end_at places (get_or (list_part shape reads places lists ready j) i 0)) (j + 1)))) → s ≡ length (shared_reads M j)
+    pub going_is : (s : ℕ) → s ≡ sum_to p (λ i. bit (not (eqb (end_at places (get_or col.reads i 0)) (j + 1)))) → s ≡ length (shared_reads M j)
     going_is s h =
         h
-        ∙ sum_ext p (λ i k. each i (subst (λ (x : ℕ). i < x) (height_is shape reads places lists ready j l p q) k))
-        ∙ ap (λ (n : ℕ). sum_to n (λ i. goes M j (get_or (active_reads M j) i 0))) (height_is shape reads places lists ready j l p q)
+        ∙ sum_ext p (λ i k. each i (subst (λ (x : ℕ). i < x) (height_is shape reads places lists ready j l col here p q) k))
+        ∙ ap (λ (n : ℕ). sum_to n (λ i. goes M j (get_or (active_reads M j) i 0))) (height_is shape reads places lists ready j l col here p q)
         ∙ sym (sum_places (active_reads M j) (goes M j))
         ∙ going M j l
       where
-        each : (i : ℕ) → i < length (active_reads M j) → bit (not (eqb (end_at places (get_or (list_part shape reads places lists ready j) i 0)) (j + 1))) ≡ goes M j (get_or (active_reads M j) i 0)
+        each : (i : ℕ) → i < length (active_reads M j) → bit (not (eqb (end_at places (get_or col.reads i 0)) (j + 1))) ≡ goes M j (get_or (active_reads M j) i 0)
         each i k = ap₂ (λ (x y : ℕ). bit (not (eqb x y))) (ends-listed i k) (add-one j)
 
-    pub closing_is : (s : ℕ) → s ≡ length (shared_reads M j) → drop s (take p (list_part shape reads places lists ready j)) ≡ closing_at M j
+    pub closing_is : (s : ℕ) → s ≡ length (shared_reads M j) → drop s (take p col.reads) ≡ closing_at M j
     closing_is s e =
         ap (drop s) (list_is ∙ active_split M j l) ∙ drop_at (shared_reads M j) (closing_at M j) s (sym e)
 
-    pub list_distinct : Distinct (take p (list_part shape reads places lists ready j))
+    pub list_distinct : Distinct (take p col.reads)
     list_distinct = subst Distinct (sym list_is) (distinct_active M j)
 
     -- the column's entries as a part of the work room
     module _ (t : ℕ) (e : t ≡ entries M) (work : List ℕ) (room : shape.m * t ≤ length work) (n : ℕ) (f : n ≡ used p) where
       entries_fit : n ≤ t
-      entries_fit = subst (λ (x : ℕ). x ≤ t) (sym (f ∙ ap used q)) (column_sizes shape reads places lists ready j t l e).fits
+      entries_fit = subst (λ (x : ℕ). x ≤ t) (sym (f ∙ ap used (q ∙ ap (λ (x : Column). x.count) here))) (column_sizes shape reads places lists ready j t l e).fits
 
       pub entries-length : length (take (j * t + n - j * t) (drop (j * t) work)) ≡ used p
       entries-length =
@@ -142,8 +140,8 @@ module _ (shape : Shape) (reads places lists : List ℕ) (ready : Ready shape re
 
       -- what the column's reads get is one step of the way back
       pub settled : (s : ℕ) → s ≡ length (shared_reads M j) → (old new : List ℕ)
-          → ((r : ℕ) → get_or new r 0 ≡ bit (first_over (drop s (take p (list_part shape reads places lists ready j)))
-          (entry_for (take p (list_part shape reads places lists ready j)) (take (j * t + n - j * t) (drop (j * t) work))) (division_of old) r))
+          → ((r : ℕ) → get_or new r 0 ≡ bit (first_over (drop s (take p col.reads))
+          (entry_for (take p col.reads) (take (j * t + n - j * t) (drop (j * t) work))) (division_of old) r))
           → (r : ℕ) → get_or new r 0 ≡ bit (first_over (closing_at M j) (entry_for (active_reads M j) (column_of M work j)) (division_of old) r)
       settled s g old new h r =
           h r
@@ -154,7 +152,7 @@ module _ (shape : Shape) (reads places lists : List ℕ) (ready : Ready shape re
           same d =
               let k : ℕ = index_at (active_reads M j) d in
               let y : n ≤ t = entries_fit in
-              let i : k < n = subst (λ (x : ℕ). k < x) (sym (f ∙ ap used (height_is shape reads places lists ready j l p q))) (index-used (active_reads M j) d) in
+              let i : k < n = subst (λ (x : ℕ). k < x) (sym (f ∙ ap used (height_is shape reads places lists ready j l col here p q))) (index-used (active_reads M j) d) in
               get_or-take (j * t + n - j * t) (drop (j * t) work) k 0 (omega arith)
               ∙ ap (λ (a : ℕ). get_or (drop (j * a) work) k 0) e
               ∙ sym (get_or-take (entries M) (drop (j * entries M) work) k 0 (omega arith))

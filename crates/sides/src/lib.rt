@@ -18,15 +18,12 @@ fn back_at(listed: &Listed, j: usize, t: usize, work: &[u32], sides: &mut [u8])
     ensures { (r : ℕ) → get_or sides.new r 0
         ≡ bit (back_at (matrix_of listed.now.reads) work.now j (division_of sides.old) r) }
 {
-    let lists = listed.lists;
-    let a = 13 * j + 1;
-    let e = a + 12;
-    let list = &lists[a..e];
-    let p = usize::from(lists[13 * j]);
-    let s = back::going_on(list, p, listed.places, j);
+    let column = &listed.lists[j];
+    let p = usize::from(column.count);
+    let s = back::going_on(&column.reads, p, listed.places, j);
     let from = j * t;
     let to = from + plain::entries(p);
-    back::settle(&work[from..to], list, p, s, sides);
+    back::settle(&work[from..to], &column.reads, p, s, sides);
 }
 
 // The way back through all columns, from all reads on side 0.
@@ -49,7 +46,7 @@ pub fn least_last(listed: &Listed, t: usize, work: &[u32]) -> u32
     ensures { result ≡ table_least (matrix_of listed.now.reads) work.now }
 {
     let j = listed.reads.shape.m - 1;
-    let p = usize::from(listed.lists[13 * j]);
+    let p = usize::from(listed.lists[j].count);
     let from = j * t;
     let to = from + plain::entries(p);
     back::least_from(&work[from..to], 0, 1)

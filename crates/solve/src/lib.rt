@@ -10,20 +10,20 @@ ghost use Rattle.ready.specs.Piling.{ThinColumns};
 ghost use Rattle.solve.specs.Rooms.{Rooms};
 ghost use Rattle.solve.specs.Outcomes.{result_of};
 
-use layout::{Listed, Placed, Reads};
+use layout::{Column, Listed, Place, Placed, Reads};
 use refusal::Refusal;
 
 // The checks 10 and 11, then the table, the answer and its cost. `t` is T.
 fn sized(
     placed: &Placed,
-    lists: &mut [u16],
+    lists: &mut [Column],
     t: usize,
     heterozygous: bool,
     scratch: &mut [u32],
     work: &mut [u32],
     out: &mut [u8],
 ) -> Result<u32, Refusal>
-    requires lists_room { 13 * placed.now.reads.shape.m ≤ length lists.old }
+    requires lists_room { placed.now.reads.shape.m ≤ length lists.old }
     requires thin_columns { ThinColumns (matrix_of placed.now.reads) t }
     requires n_in_bounds { (used (min placed.now.reads.shape.n 12) ≤ length scratch.old)
         × (4 * placed.now.reads.shape.m ≤ length scratch.old) }
@@ -56,8 +56,8 @@ pub fn solve(
     heterozygous: bool,
     work: &mut [u32],
     out: &mut [u8],
-    places: &mut [u32],
-    lists: &mut [u16],
+    places: &mut [Place],
+    lists: &mut [Column],
     scratch: &mut [u32],
 ) -> Result<u32, Refusal>
     requires { Rooms reads.now.shape places.old lists.old scratch.old }

@@ -24,6 +24,8 @@ use Rattle.meaning.proofs.Closing.{Placed}
 use Rattle.meaning.proofs.Rooms.{length-column, length-columns, column-at, columns_part, laid_join, laid_front}
 use Rattle.meaning.proofs.Rule.{rule_first, rule_next}
 use Rattle.meaning.proofs.Bounds.{Bytes, entry_bound}
+use Rattle.layout.specs.declared.runs.Place.{Place}
+use Rattle.layout.specs.declared.runs.Column.{Column}
 use Rattle.layout.specs.declared.shape.Shape.{Shape}
 use Rattle.layout.specs.Reads.{matrix_in}
 use Rattle.layout.specs.Ready.{Ready}
@@ -77,7 +79,7 @@ first_fits M taken room z =
     record { room = room; small = λ g l. let e : g ≡ 0 = omega arith in le_trans (le_of_eq (ap (λ (x : ℕ). get_or taken x 0) e ∙ z)) zero-le }
 
 -- every entry of reads that are ready is at most 805,294,080
-module _ (shape : Shape) (reads places lists : List ℕ) (ready : Ready shape reads places lists) where
+module _ (shape : Shape) (reads : List ℕ) (places : List Place) (lists : List Column) (ready : Ready shape reads places lists) where
   abbrev M : Matrix
   M = matrix_in shape reads
 

@@ -13,6 +13,8 @@ use Rattle.meaning.specs.Active.{used, entries}
 use Rattle.meaning.specs.Closing.{active_reads, closing_at}
 use Rattle.meaning.specs.Rule.{least_at, shared_reads}
 use Rattle.meaning.proofs.Closing.{active_split}
+use Rattle.layout.specs.declared.runs.Place.{Place}
+use Rattle.layout.specs.declared.runs.Column.{Column}
 use Rattle.layout.specs.declared.shape.Shape.{Shape}
 use Rattle.layout.specs.Reads.{matrix_in}
 use Rattle.layout.specs.Lists.{count_at}
@@ -64,10 +66,10 @@ module _ (i t : ℕ) (work : List ℕ) (room : suc i * t ≤ length work) (q n s
           ∙ sym (get_or-take t (drop (i * t) work) x 0 (omega arith))
 
 -- at column 0, and after it
-pub handed_none : (lists : List ℕ) (j t s : ℕ) (work taken : List ℕ) → j ≡ 0 → get_or taken 0 0 ≡ 0 → HandedOn lists j t s work taken
+pub handed_none : (lists : List Column) (j t s : ℕ) (work taken : List ℕ) → j ≡ 0 → get_or taken 0 0 ≡ 0 → HandedOn lists j t s work taken
 handed_none lists j t s work taken e z = subst (λ (x : ℕ). HandedOn lists x t s work taken) (sym e) z
 
-pub handed_next : (lists : List ℕ) (j t s : ℕ) (work taken : List ℕ) → j ≢ 0
+pub handed_next : (lists : List Column) (j t s : ℕ) (work taken : List ℕ) → j ≢ 0
     → ((g : ℕ) → g < used s → get_or taken g 0 ≡ least_at (used s) (used (count_at lists (j - 1)) / used s) (take t (drop ((j - 1) * t) work)) g)
     → HandedOn lists j t s work taken
 handed_next lists zero t s work taken ne h = absurd (ne refl)
@@ -75,7 +77,7 @@ handed_next lists (suc i) t s work taken ne h =
     let e : suc i - 1 ≡ i = omega arith in
     subst (λ (x : ℕ). (g : ℕ) → g < used s → get_or taken g 0 ≡ least_at (used s) (used (count_at lists x) / used s) (take t (drop (x * t) work)) g) e h
 
-module _ (shape : Shape) (reads places lists : List ℕ) (ready : Ready shape reads places lists) where
+module _ (shape : Shape) (reads : List ℕ) (places : List Place) (lists : List Column) (ready : Ready shape reads places lists) where
   abbrev M : Matrix
   M = matrix_in shape reads
 

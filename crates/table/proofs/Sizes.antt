@@ -2,12 +2,13 @@
 use Prim.Native.Nat.{ℕ, zero, suc, ◌+◌, ◌-◌, ◌*◌, ◌≤◌, ◌<◌, zero-le}
 use mathlib.Core.Path.{◌≡◌, sym, ap, ◌∙◌, subst}
 use mathlib.Core.Bool.{true}
-use mathlib.Core.List.{List}
+use mathlib.Core.List.{List, []}
 use native.Mathlib.Nat.{le_trans, le_of_eq, mul-le-mul_right, mul-le-mul}
 use native.Mathlib.Omega.{arith}
-use lib.ListN.{length, get_or, take, drop}
+use lib.ListN.{length, get_or}
 use lib.Seq.{get_or-take}
 use lib.Pow.{pow_mono, pow_pos}
+use Rattle.std.proofs.lemmas.List.{length-take, get_or_default}
 use Rattle.meaning.specs.Numbers.{max_to}
 use Rattle.meaning.specs.Block.{Matrix}
 use Rattle.meaning.specs.Active.{read, active, active_count, most_active, used, entries}
@@ -15,9 +16,11 @@ use Rattle.meaning.specs.Closing.{active_reads}
 use Rattle.meaning.proofs.Lists.{has-get_or}
 use Rattle.meaning.proofs.Closing.{Placed, length-active, active_lt, active_is}
 use Rattle.meaning.proofs.Rooms.{used-room}
+use Rattle.layout.specs.declared.runs.Place.{Place}
+use Rattle.layout.specs.declared.runs.Column.{Column}
 use Rattle.layout.specs.declared.shape.Shape.{Shape}
 use Rattle.layout.specs.Reads.{matrix_in}
-use Rattle.layout.specs.Lists.{count_at}
+use Rattle.layout.specs.Lists.{no_reads, count_at, reads_at}
 use Rattle.layout.specs.Ready.{Ready}
 use Rattle.layout.proofs.Laws.{count_is, lawful_placed}
 
@@ -26,7 +29,15 @@ unfolding max_to
 max-below zero c f h = zero-le
 max-below (suc n) c f h = let a : max_to n f ≤ c = max-below n c f (λ i l. h i (omega arith)) in let b : f n ≤ c = h n (omega arith) in omega arith
 
-module _ (shape : Shape) (reads places lists : List ℕ) (ready : Ready shape reads places lists) where
+-- column j as the code reads it
+abbrev pub column_at : List Column → ℕ → Column
+column_at lists j = get_or lists j (record { count = 0; reads = [] })
+
+-- a column that is there is what the definitions say of it
+pub column_read : (lists : List Column) (j : ℕ) → j < length lists → column_at lists j ≡ get_or lists j no_reads
+column_read lists j l = get_or_default lists j _ no_reads l
+
+module _ (shape : Shape) (reads : List ℕ) (places : List Place) (lists : List Column) (ready : Ready shape reads places lists) where
   abbrev M : Matrix
   M = matrix_in shape reads
 
@@ -48,8 +59,7 @@ module _ (shape : Shape) (reads places lists : List ℕ) (ready : Ready shape re
   pub record ColumnSizes (j t : ℕ) : Type 0 where
     pub few-columns : shape.m ≤ 1024
     pub few-reads : shape.n ≤ 1024
-    pub places_room : 3 * shape.n ≤ length places
-    pub list-room : 13 * j + 13 ≤ length lists
+    pub list-room : j < length lists
     pub counted : count_at lists j ≡ length (active_reads M j)
     pub few : count_at lists j ≤ 12
     pub some : 0 < t
@@ -68,7 +78,6 @@ module _ (shape : Shape) (reads places lists : List ℕ) (ready : Ready shape re
       record {
         few-columns = c;
         few-reads = ready.lawful.few-reads;
-        places_room = ready.noted.room;
         list-room = omega (arith, ready.piled.room);
         counted = p;
         few = subst (λ (x : ℕ). x ≤ 12) (sym p) (ready.piled.few j l);
@@ -79,13 +88,14 @@ module _ (shape : Shape) (reads places lists : List ℕ) (ready : Ready shape re
         table-size = omega arith;
       }
 
-  -- the reads of column j's list, as a part of the lists
+  -- the reads of column j's list
   module _ (j : ℕ) (l : j < shape.m) where
-    pub list_part_lem : (n : ℕ) → 12 ≤ n → (i : ℕ) → i < length (active_reads M j) → get_or (take n (drop (13 * j + 1) lists)) i 0 ≡ get_or (active_reads M j) i 0
-    list_part_lem n h i k =
-        let f : length (active_reads M j) ≤ 12 = ready.piled.few j l in
-        get_or-take n (drop (13 * j + 1) lists) i 0 (omega arith)
-        ∙ sym (get_or-take (length (active_reads M j)) (drop (13 * j + 1) lists) i 0 k)
+    pub listed-fits : length (active_reads M j) ≤ length (reads_at lists j)
+    listed-fits = omega (arith, length-take (length (active_reads M j)) (reads_at lists j), ap length (ready.piled.holds j l).listed)
+
+    pub listed_at : (i : ℕ) → i < length (active_reads M j) → get_or (reads_at lists j) i 0 ≡ get_or (active_reads M j) i 0
+    listed_at i k =
+        sym (get_or-take (length (active_reads M j)) (reads_at lists j) i 0 k)
         ∙ ap (λ (x : List ℕ). get_or x i 0) (ready.piled.holds j l).listed
 
     pub listed-read : (i : ℕ) → i < length (active_reads M j) → get_or (active_reads M j) i 0 < shape.n

@@ -5,19 +5,20 @@ use Rattle.meaning.specs.Active.{used}
 use Rattle.meaning.specs.Closing.{active_reads}
 use Rattle.meaning.specs.Charge.{Charge}
 use Rattle.meaning.specs.Rule.{index_at, least_at, shared_reads, column_from, column_of}
+use Rattle.layout.specs.declared.runs.Column.{Column}
 use Rattle.layout.specs.Lists.{count_at}
 
 -- what is asked to hand on to column j, with t entries a column and s shared reads: the column before has room for its own
-pub record Handing (lists : List ℕ) (j t s : ℕ) (work taken : List ℕ) : Type 0 where
+pub record Handing (lists : List Column) (j t s : ℕ) (work taken : List ℕ) : Type 0 where
   pub room : used s ≤ length taken
   pub written : j * t ≤ length work
-  pub listed : 0 < j → 13 * (j - 1) < length lists
+  pub listed : 0 < j → j - 1 < length lists
   pub few : 0 < j → count_at lists (j - 1) ≤ 12
   pub shared : 0 < j → s ≤ count_at lists (j - 1)
   pub fits : 0 < j → used (count_at lists (j - 1)) ≤ t
 
 -- for each index of the s shared reads the least entry of the column before; 0 at column 0
-abbrev pub HandedOn : List ℕ → ℕ → ℕ → ℕ → List ℕ → List ℕ → Type 0
+abbrev pub HandedOn : List Column → ℕ → ℕ → ℕ → List ℕ → List ℕ → Type 0
 HandedOn lists zero t s work taken = get_or taken 0 0 ≡ 0
 HandedOn lists (suc i) t s work taken =
     (g : ℕ) → g < used s → get_or taken g 0 ≡ least_at (used s) (used (count_at lists i) / used s) (take t (drop (i * t) work)) g

@@ -12,7 +12,14 @@ ghost use Rattle.table.specs.Taken.{Handing, HandedOn};
 
 // What column j takes over: nothing at column 0, else for each index of the s reads that it shares with the column before that one's
 // least entry.
-fn take_over(lists: &[u16], j: usize, t: usize, s: usize, work: &[u32], taken: &mut [u32])
+fn take_over(
+    lists: &[layout::Column],
+    j: usize,
+    t: usize,
+    s: usize,
+    work: &[u32],
+    taken: &mut [u32],
+)
     requires { Handing lists.now j t s work.now taken.old }
     ensures { HandedOn lists.now j t s work.now taken.new }
 {
@@ -21,15 +28,15 @@ fn take_over(lists: &[u16], j: usize, t: usize, s: usize, work: &[u32], taken: &
         return;
     }
     let i = j - 1;
-    let q = usize::from(lists[13 * i]);
+    let q = usize::from(lists[i].count);
     let from = i * t;
     let to = from + plain::entries(q);
     carry::carry(&work[from..to], plain::entries(s), taken);
 }
 
-// Which column, how many entries a column has, and how it is charged.
+// Which column is filled, how many entries a column has, and how it is charged.
 #[derive(Clone, Copy)]
-struct Place {
+struct Filling {
     j: usize,
     t: usize,
     heterozygous: bool,
@@ -39,7 +46,7 @@ struct Place {
 // room for what its reads bring.
 fn column_by_rule(
     listed: &layout::Listed,
-    at: Place,
+    at: Filling,
     w: &mut [[u32; 2]; 12],
     turn: &mut [usize; 12],
     taken: &mut [u32],
@@ -55,13 +62,10 @@ fn column_by_rule(
 {
     let j = at.j;
     let t = at.t;
-    let lists = listed.lists;
-    let a = 13 * j + 1;
-    let e = a + 12;
-    let list = &lists[a..e];
-    let p = usize::from(lists[13 * j]);
-    let s = cells::prepare(&listed.placed(), list, p, j, w, turn);
-    take_over(lists, j, t, s, work, taken);
+    let list = &listed.lists[j];
+    let p = usize::from(list.count);
+    let s = cells::prepare(&listed.placed(), &list.reads, p, j, w, turn);
+    take_over(listed.lists, j, t, s, work, taken);
     let from = j * t;
     let to = from + t;
     let column = column::Column {
@@ -90,7 +94,7 @@ pub fn fill_table(
     let mut w = [[0u32; 2]; 12];
     let mut turn = [0usize; 12];
     for j in 0..listed.reads.shape.m {
-        let at = Place { j, t, heterozygous };
+        let at = Filling { j, t, heterozygous };
         column_by_rule(listed, at, &mut w, &mut turn, taken, work);
     }
 }

@@ -1,5 +1,5 @@
 -- The loop over the reads: one read more.
-use Prim.Native.Nat.{ℕ, zero, suc, ◌+◌, ◌*◌, ◌≤◌, ◌<◌}
+use Prim.Native.Nat.{ℕ, zero, suc, ◌+◌, ◌*◌, ◌≤◌}
 use lib.Dec.{eqb}
 use lib.ListN.{length, get_or, replicate}
 use mathlib.Core.Bool.{Bool, true, false, cond, beq}
@@ -17,12 +17,9 @@ use Rattle.meaning.proofs.Totals.{sum_bound}
 use Rattle.meaning.proofs.Bounds.{Light}
 use Rattle.meaning.proofs.Formed.{length-reads}
 use Rattle.layout.specs.Matrices.{matrix_of}
-use Rattle.layout.specs.declared.reads.Placed.{Placed}
 use Rattle.layout.specs.declared.reads.Reads.{Reads}
-use Rattle.layout.specs.Places.{start_at, first_at, end_at}
 use Rattle.layout.specs.Lists.{Thin}
 use Rattle.layout.proofs.Laws.{lawful-light}
-use Rattle.layout.proofs.Cuts.{Cut, cut_noted}
 use Rattle.tally.specs.Tally.{unit, tally_of, tallied_to, place, Tallied, ReadAdded}
 
 -- zeros all through
@@ -30,11 +27,6 @@ zeros : (n k : ℕ) → get_or (replicate {A = ℕ} n 0) k 0 ≡ 0
 zeros zero k = refl
 zeros (suc n) zero = refl
 zeros (suc n) (suc k) = zeros n k
-
--- read r by the numbers that are read of it
-pub cut_read : (p : Placed) (r : ℕ) → r < p.reads.shape.n → (x from to : ℕ)
-    → x ≡ start_at p.places.now r → from ≡ first_at p.places.now r → to ≡ end_at p.places.now r → Cut p.reads.shape p.reads.bytes.now r x from to
-cut_read p r l x from to ex ef et = rw (ex, ef, et) (cut_noted p.reads.lawful p.noted r l)
 
 -- no weight is above 65,535
 pub weights : (r : Reads) → Light (matrix_of r) 65535

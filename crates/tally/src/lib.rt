@@ -64,9 +64,10 @@ pub fn tally(placed: &layout::Placed, sides: &[u8], tally: &mut [u32])
     tally.fill(0);
     let shape = placed.reads.shape;
     for r in 0..shape.n {
-        let s = layout::start_of(placed.places, r);
-        let f = layout::first_of(placed.places, r);
-        let t = layout::end_of(placed.places, r);
+        let place = placed.places[r];
+        let s = place.start as usize;
+        let f = place.first as usize;
+        let t = place.end as usize;
         let e = s + shape.size * (t - f);
         // A read's cells are a part of the block, as document 01 asks.
         let cells = &placed.reads.bytes[s..e];

@@ -1,24 +1,22 @@
 use Prim.Native.Nat.{◌+◌}
-use native.Mathlib.Omega.{arith}
-use mathlib.Core.Path.{◌≡◌, sym, ap, ◌∙◌}
+use borrow.Author.Tests.{tests}
+use lib.ListN.{take}
+use mathlib.Core.Logic.{◌≢◌}
+use mathlib.Core.Path.{◌≡◌, ◌∙◌}
+use Rattle.std.proofs.Common.{rules}
+use Rattle.std.proofs.lemmas.Iterator.{YieldsList-from_slice, IsFirst-from_position}
+use Rattle.std.proofs.lemmas.Iterator.Adapters.{serves_from_places}
 use Rattle.layout.specs.Places.{end_at}
-use Rattle.fold.proofs.Count.{count_none}
-use Rattle.back.proofs.GoingOn.{goes_on, on_more, rest_closes}
-use Rattle.back.proofs.going_on.Invariants.{ends}
+use Rattle.back.proofs.GoingOn.{listed_below, goes_until}
 use Rattle.back.proofs.going_on.Goals as goal
 
-pub loop-i-init : goal.loop-i-init
-loop-i-init c = count_none (goes_on (ends c.args.list.now c.args.places.now) (c.args.j + 1))
+pub position-requires-clause-callable : goal.position-requires-clause-callable
+position-requires-clause-callable c = serves_from_places (YieldsList-from_slice (take c.args.p c.args.list.now) cc) (λ x q k. search rules)
+    (λ x k m e. let inside = listed_below c.args.list.now c.args.p _ c.requires.p_bound.1 c.requires.by_index x.now k m e in search (rules, inside))
 
-pub returns-then-end-after : goal.returns-then-end-after
-returns-then-end-after c =
-    let a = c.args in
-    let i = c.loop-i.i in
-    let closes : ends a.list.now a.places.now i ≡ a.j + 1 = sym (c.end_of-end.ensures ∙ ap (end_at a.places.now) c.from.ensures) ∙ c.if-end-after.true in
-    rest_closes (ends a.list.now a.places.now) (a.j + 1) a.p c.requires.by_index_2 i closes (omega arith) c.loop-i.invariant
-
-pub loop-i-preserved : goal.loop-i-preserved
-loop-i-preserved c =
-    let a = c.args in
-    let ended : c.end_of-end.result ≡ ends a.list.now a.places.now c.loop-i.i = c.end_of-end.ensures ∙ ap (end_at a.places.now) c.from.ensures in
-    on_more (ends a.list.now a.places.now) (a.j + 1) c.loop-i.i c.loop-i.invariant (λ e. c.if-end-after.false (ended ∙ e))
+pub returns : goal.returns
+returns c =
+    c.unwrap_or.ensures
+    ∙ goes_until c.args.list.now c.args.p c.requires.p_bound.1 (end_at c.args.places.now) (c.args.j + 1) c.requires.by_index_2 c.position.result
+    (IsFirst-from_position _ _ c.position.result (λ r. end_at c.args.places.now r ≡ c.args.j + 1) (λ r. end_at c.args.places.now r ≢ c.args.j + 1)
+    c.position.ensures.ran (YieldsList-from_slice (take c.args.p c.args.list.now) cc) (λ x q k. search (rules, tests)) (λ x q k. search (rules, tests)))

@@ -2,100 +2,72 @@ use native.Mathlib.Omega.{arith}
 use mathlib.Core.Path.{◌≡◌, refl, ap, ◌∙◌}
 use Prim.Native.Nat.{ℕ, ◌-◌, ◌≤◌, ◌<◌}
 use lib.Dec.{ltb}
+use mir.Val.{bool_byte}
+use mathlib.Core.Bool.{Bool}
 use lib.Pow.{pow_pos}
-use lib.ListN.{get_or, length-set}
+use lib.ListN.{length-set}
 use Rattle.meaning.specs.Numbers.{bit}
 use Rattle.layout.specs.Places.{first_at}
-use Rattle.fold.specs.Turn.{starts_before}
+use Rattle.fold.specs.Turn.{starts_before, shared_to}
 use Rattle.fold.proofs.Count.{byte_bit, bit_lt, count_le}
 use Rattle.fold.proofs.Masks.{Masks, masks_none, masks_more, masks_all}
 use Rattle.sums.specs.Sums.{pair_of}
 use Rattle.cells.proofs.Pairs.{pairs_none, pairs_more}
-use Rattle.cells.proofs.Cells.{Here, taken_cell, listed-room, here_listed}
+use Rattle.cells.proofs.Cells.{taken_cell, here_listed}
 use Rattle.cells.proofs.prepare.Goals as goal
+
+-- fewer than 12 digits are set before the read, and it sets one at most
+few_seen : (shares : ℕ → Bool) (t : Bool) {seen i p b : ℕ} → seen ≡ shared_to shares i → i < p → p ≤ 12 → b ≡ bool_byte t
+    → (seen < 12) × (b ≤ 1)
+few_seen shares t {seen} {i} e l h s = omega (arith, e, count_le shares i, s, byte_bit t, bit_lt t)
 
 pub loop-i-init : goal.loop-i-init
 loop-i-init c = (omega arith, pairs_none _ _ _, masks_none _ _ (omega arith))
 
-pub start_of-a-requires : goal.start_of-a-requires
-start_of-a-requires c = omega (arith, c.from-r.ensures, listed-room c.args.placed.now c.requires c.loop-i.i c.loop-i-test.true)
-
-pub first_of-f-requires : goal.first_of-f-requires
-first_of-f-requires c = omega (arith, c.from-r.ensures, listed-room c.args.placed.now c.requires c.loop-i.i c.loop-i-test.true)
-
-pub end_of-requires : goal.end_of-requires
-end_of-requires c = omega (arith, c.from-r.ensures, listed-room c.args.placed.now c.requires c.loop-i.i c.loop-i-test.true)
-
 pub overflow_sub-e : goal.overflow_sub-e
 overflow_sub-e c =
-    let h = here_listed c.args.placed.now c.requires c.loop-i.i c.loop-i-test.true _ _ _ _ c.from-r.ensures c.start_of-a.ensures c.first_of-f.ensures c.end_of.ensures in omega (arith, h.begun, h.goes_on)
+    let h = here_listed c.args.placed.now c.requires c.loop-i.i c.loop-i-test.true c.from-r.ensures in omega (arith, h.begun, h.goes_on)
 
 pub overflow_mul-e : goal.overflow_mul-e
 overflow_mul-e c =
-    omega (arith, (here_listed c.args.placed.now c.requires c.loop-i.i c.loop-i-test.true _ _ _ _ c.from-r.ensures c.start_of-a.ensures c.first_of-f.ensures c.end_of.ensures).inside)
+    omega (arith, (here_listed c.args.placed.now c.requires c.loop-i.i c.loop-i-test.true c.from-r.ensures).inside)
 
 pub overflow_add-e : goal.overflow_add-e
 overflow_add-e c =
-    omega (arith, (here_listed c.args.placed.now c.requires c.loop-i.i c.loop-i-test.true _ _ _ _ c.from-r.ensures c.start_of-a.ensures c.first_of-f.ensures c.end_of.ensures).inside)
+    omega (arith, (here_listed c.args.placed.now c.requires c.loop-i.i c.loop-i-test.true c.from-r.ensures).inside)
 
 pub slice_bounds-weights-end : goal.slice_bounds-weights-end
 slice_bounds-weights-end c =
-    omega (arith, (here_listed c.args.placed.now c.requires c.loop-i.i c.loop-i-test.true _ _ _ _ c.from-r.ensures c.start_of-a.ensures c.first_of-f.ensures c.end_of.ensures).inside)
+    omega (arith, (here_listed c.args.placed.now c.requires c.loop-i.i c.loop-i-test.true c.from-r.ensures).inside)
 
 pub overflow_sub-j : goal.overflow_sub-j
 overflow_sub-j c =
-    (here_listed c.args.placed.now c.requires c.loop-i.i c.loop-i-test.true _ _ _ _ c.from-r.ensures c.start_of-a.ensures c.first_of-f.ensures c.end_of.ensures).begun
+    (here_listed c.args.placed.now c.requires c.loop-i.i c.loop-i-test.true c.from-r.ensures).begun
 
 pub weights-x-requires : goal.weights-x-requires
 weights-x-requires c =
-    let here : let a = c.args in
-    Here a.placed.now.reads.shape a.placed.now.reads.bytes.now (get_or a.list.now c.loop-i.i 0) a.j
-    c.start_of-a.result c.first_of-f.result c.end_of.result = here_listed c.args.placed.now c.requires c.loop-i.i c.loop-i-test.true _ _ _ _
-    c.from-r.ensures c.start_of-a.ensures c.first_of-f.ensures c.end_of.ensures in
+    let here = here_listed c.args.placed.now c.requires c.loop-i.i c.loop-i-test.true c.from-r.ensures in
     let k = taken_cell here _ refl in
     (k.0, k.1)
 
 pub own-requires : goal.own-requires
 own-requires c =
-    -- the digits that are set, and whether the read is shared
-    let few_seen : (c.loop-i.seen < 12) × (c.from-b.result ≤ 1) = let l = c.loop-i in
-    omega (
-      arith,
-      c.from-b.ensures,
-      byte_bit (ltb c.first_of-f.result c.args.j),
-      bit_lt (ltb c.first_of-f.result c.args.j),
-      l.invariant.2.count,
-      c.requires.few,
-      count_le (starts_before (first_at c.args.placed.now.places.now) c.args.list.now c.args.j) l.i,
-    ) in
-    omega (arith, few_seen)
+    let shares = starts_before (first_at c.args.placed.now.places.now) c.args.list.now c.args.j in
+    omega (arith, few_seen shares _ c.loop-i.invariant.2.count c.loop-i-test.true c.requires.few c.from-b.ensures)
 
 pub overflow_add-seen : goal.overflow_add-seen
 overflow_add-seen c =
-    -- the digits that are set, and whether the read is shared
-    let few_seen : (c.loop-i.seen < 12) × (c.from-b.result ≤ 1) = let l = c.loop-i in
-    omega (
-      arith,
-      c.from-b.ensures,
-      byte_bit (ltb c.first_of-f.result c.args.j),
-      bit_lt (ltb c.first_of-f.result c.args.j),
-      l.invariant.2.count,
-      c.requires.few,
-      count_le (starts_before (first_at c.args.placed.now.places.now) c.args.list.now c.args.j) l.i,
-    ) in
-    omega (arith, few_seen)
+    let shares = starts_before (first_at c.args.placed.now.places.now) c.args.list.now c.args.j in
+    omega (arith, few_seen shares _ c.loop-i.invariant.2.count c.loop-i-test.true c.requires.few c.from-b.ensures)
 
 pub loop-i-preserved : goal.loop-i-preserved
 loop-i-preserved c =
-    let here : let a = c.args in
-    Here a.placed.now.reads.shape a.placed.now.reads.bytes.now (get_or a.list.now c.loop-i.i 0) a.j
-    c.start_of-a.result c.first_of-f.result c.end_of.result = here_listed c.args.placed.now c.requires c.loop-i.i c.loop-i-test.true _ _ _ _
-    c.from-r.ensures c.start_of-a.ensures c.first_of-f.ensures c.end_of.ensures in
+    let here = here_listed c.args.placed.now c.requires c.loop-i.i c.loop-i-test.true c.from-r.ensures in
     let l = c.loop-i in
     let below : l.i < 12 = omega (arith, c.loop-i-test.true, c.requires.few) in
     let x = c.weights-x.ensures in
     let k = taken_cell here _ refl in
-    let f = c.first_of-f.ensures ∙ ap (first_at c.args.placed.now.places.now) c.from-r.ensures in
+    let f = ap (first_at c.args.placed.now.places.now) c.from-r.ensures in
     let shared = c.from-b.ensures ∙ byte_bit _ ∙ ap (λ (n : ℕ). bit (ltb n c.args.j)) f in (
       simp length-set l.invariant.0,
       pairs_more _ l.i _ _ _ (omega (arith, l.invariant.0)) l.invariant.1 (x.value ∙ ap pair_of k.2) x.l_bound,

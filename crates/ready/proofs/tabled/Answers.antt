@@ -1,13 +1,12 @@
 use native.Mathlib.Nat.{le_trans}
 use Rattle.layout.proofs.Laws.{count_is}
-use Rattle.ready.specs.Piling.{Piling}
-use Rattle.ready.proofs.Piles.{ends-inside, entries-room, heights_few, listed_ready}
+use Rattle.ready.proofs.Piles.{piling, ends-inside, entries-room, heights_few, listed_ready}
 use Rattle.ready.proofs.tabled.Goals as goal
 
 pub lists-requires : goal.lists-requires
 lists-requires c =
     let p = c.args.placed.now in
-    let q : Piling p.reads.shape p.reads.bytes.now p.places.now c.args.lists.now = record { lawful = p.reads.lawful; noted = p.noted; room = c.requires.lists_room } in
+    let q = piling p.reads p.noted c.requires.lists_room in
     record {
       n_bound = (p.reads.shape.few_reads, p.noted.room, q.room);
       by_index = ends-inside _ _ _ _ q;

@@ -2,60 +2,52 @@ use native.Mathlib.Omega.{arith}
 use Prim.Native.Nat.{ℕ, ◌*◌, ◌≤◌, ◌<◌}
 use mathlib.Core.Path.{◌≡◌, ap, ◌∙◌}
 use mathlib.Core.List.{List}
-use lib.ListN.{length}
+use lib.ListN.{length, get_or}
 use Rattle.meaning.specs.Letters.{charge_in, mode_of}
 use Rattle.meaning.specs.Call.{laid}
 use Rattle.layout.specs.Reads.{matrix_in}
 use Rattle.layout.specs.Matrices.{matrix_of}
 use Rattle.layout.specs.declared.reads.Listed.{Listed}
+use Rattle.layout.specs.Places.{first_at}
+use Rattle.layout.specs.Lists.{no_reads}
+use Rattle.fold.specs.Turn.{starts_before, shared_to}
 use Rattle.meaning.specs.Active.{entries}
 use Rattle.layout.specs.declared.reads.Reads.{Reads}
-use Rattle.table.specs.Taken.{shared_before, TakenBefore}
-use Rattle.table.proofs.Sizes.{ColumnSizes, column_sizes}
+use Rattle.table.specs.Taken.{HandedOn, shared_before, TakenBefore}
+use Rattle.table.proofs.Sizes.{ColumnSizes, column_sizes, column_at, column_read}
 use Rattle.table.proofs.Handed.{handing, handed}
 use Rattle.table.proofs.Columns.{cells-laid, shared_are, fill_fits, pass_laid}
 use Rattle.table.proofs.Filled.{before_fits, before_over}
 use Rattle.table.proofs.column_by_rule.Goals as goal
 
--- the plain numbers of column j
-sizes : (l : Listed) {j t : ℕ} → (j < l.reads.shape.m) × (t ≡ entries (matrix_of l.reads)) → ColumnSizes l.reads.shape l.reads.bytes.now l.places.now l.lists.now l.ready j t
-sizes l {j} {t} h = column_sizes _ _ _ _ l.ready j t h.0 h.1
+module _ (l : Listed) {j t : ℕ} (h : (j < l.reads.shape.m) × (t ≡ entries (matrix_of l.reads))) where
+  -- the plain numbers of column j
+  sizes : ColumnSizes l.reads.shape l.reads.bytes.now l.places.now l.lists.now l.ready j t
+  sizes = column_sizes _ _ _ _ l.ready j t h.0 h.1
 
-pub overflow_mul-a : goal.overflow_mul-a
-overflow_mul-a c = omega (arith, sizes c.args.listed.now c.requires.j_lt_m)
+  -- what is read of it
+  column : column_at l.lists.now j ≡ get_or l.lists.now j no_reads
+  column = column_read l.lists.now j (omega (arith, h.0, l.ready.piled.room))
 
-pub overflow_add-a : goal.overflow_add-a
-overflow_add-a c = omega (arith, sizes c.args.listed.now c.requires.j_lt_m)
+  module _ {p s : ℕ} (q : p ≡ (column_at l.lists.now j).count)
+      (e : s ≡ shared_to (starts_before (first_at l.places.now) (column_at l.lists.now j).reads j) p) where
+    -- how many of its reads are shared
+    shared : s ≡ length (shared_before (matrix_of l.reads) j)
+    shared = shared_are _ _ _ _ l.ready j h.0 _ column p q s e
 
-pub overflow_add-e : goal.overflow_add-e
-overflow_add-e c = omega (arith, sizes c.args.listed.now c.requires.j_lt_m)
-
-pub offset_bounds-lists-a : goal.offset_bounds-lists-a
-offset_bounds-lists-a c = omega (arith, sizes c.args.listed.now c.requires.j_lt_m)
-
-pub slice_bounds-list-end : goal.slice_bounds-list-end
-slice_bounds-list-end c = omega (arith, sizes c.args.listed.now c.requires.j_lt_m)
-
-pub overflow_mul-j : goal.overflow_mul-j
-overflow_mul-j c = omega (arith, sizes c.args.listed.now c.requires.j_lt_m)
-
-pub offset_bounds-lists-j : goal.offset_bounds-lists-j
-offset_bounds-lists-j c = omega (arith, sizes c.args.listed.now c.requires.j_lt_m)
-
-pub bounds-lists-j : goal.bounds-lists-j
-bounds-lists-j c = omega (arith, sizes c.args.listed.now c.requires.j_lt_m)
+    -- what it takes over
+    taken_over : (work taken : List ℕ) → HandedOn l.lists.now j t s work taken → TakenBefore (matrix_of l.reads) j work taken
+    taken_over = handed _ _ _ _ l.ready j t s h.0 h.1 shared
 
 pub prepare-s-requires : goal.prepare-s-requires
 prepare-s-requires c =
-    cells-laid _ _ _ _ c.args.listed.now.ready c.args.at.j c.requires.j_lt_m.0 c.from-p.result c.from-p.ensures
+    cells-laid _ _ _ _ c.args.listed.now.ready c.args.at.j c.requires.j_lt_m.0 _ (column c.args.listed.now c.requires.j_lt_m) c.from-p.result c.from-p.ensures
     c.placed.result (ap (λ (r : Reads). r.shape) c.placed.ensures.0) (ap (λ (r : Reads). r.bytes.now) c.placed.ensures.0)
 
 pub take_over-requires : goal.take_over-requires
 take_over-requires c =
-    -- how many reads are shared
-    let shared : c.prepare-s.result ≡ length (shared_before (matrix_in c.args.listed.now.reads.shape c.args.listed.now.reads.bytes.now) c.args.at.j) = let w = c.from-p in
-    shared_are _ _ _ _ c.args.listed.now.ready c.args.at.j c.requires.j_lt_m.0 w.result w.ensures c.prepare-s.result (rw c.placed.ensures.1 at c.prepare-s.ensures.value) in
-    handing _ _ _ _ c.args.listed.now.ready c.args.at.j c.args.at.t c.prepare-s.result c.requires.j_lt_m.0 c.requires.j_lt_m.1 shared c.args.work.now c.args.taken.now
+    let shares = shared c.args.listed.now c.requires.j_lt_m c.from-p.ensures (rw c.placed.ensures.1 at c.prepare-s.ensures.value) in
+    handing _ _ _ _ c.args.listed.now.ready c.args.at.j c.args.at.t c.prepare-s.result c.requires.j_lt_m.0 c.requires.j_lt_m.1 shares c.args.work.now c.args.taken.now
     c.requires.t_in_bounds.0 c.requires.t_in_bounds.1
 
 pub overflow_mul-from : goal.overflow_mul-from
@@ -72,30 +64,26 @@ slice_bounds-fill-end c = omega (arith, sizes c.args.listed.now c.requires.j_lt_
 
 pub fill-requires : goal.fill-requires
 fill-requires c =
-    let shared : c.prepare-s.result ≡ length (shared_before (matrix_in c.args.listed.now.reads.shape c.args.listed.now.reads.bytes.now) c.args.at.j) = let w = c.from-p in
-    shared_are _ _ _ _ c.args.listed.now.ready c.args.at.j c.requires.j_lt_m.0 w.result w.ensures c.prepare-s.result (rw c.placed.ensures.1 at c.prepare-s.ensures.value) in
-    -- what is taken over
-    let taken : TakenBefore (matrix_in c.args.listed.now.reads.shape c.args.listed.now.reads.bytes.now) c.args.at.j c.args.work.now c.take_over.new.taken = handed _ _ _ _ c.args.listed.now.ready c.args.at.j c.args.at.t c.prepare-s.result c.requires.j_lt_m.0 c.requires.j_lt_m.1 shared c.args.work.now _ c.take_over.ensures in
+    let taken = taken_over c.args.listed.now c.requires.j_lt_m c.from-p.ensures (rw c.placed.ensures.1 at c.prepare-s.ensures.value) _ _ c.take_over.ensures in
     let w = c.from-p in
     let g = c.prepare-s in
     let k : length c.take_over.new.taken ≡ length c.args.taken.now = c.take_over.auto.taken in
     let r : c.args.at.t ≤ length c.args.taken.now = c.requires.t_in_bounds.0 in
     let turned = λ (i : ℕ) (k : i < c.from-p.result). rw c.placed.ensures.1 at (c.prepare-s.ensures.by_index_2 i k) in
-    let fits = fill_fits _ _ _ _ c.args.listed.now.ready c.args.at.j c.requires.j_lt_m.0 w.result w.ensures g.new.turn turned c.args.at.t c.requires.j_lt_m.1
-    c.take_over.new.taken c.args.work.now c.requires.t_in_bounds.1
+    let fits = fill_fits _ _ _ _ c.args.listed.now.ready c.args.at.j c.requires.j_lt_m.0 _ (column c.args.listed.now c.requires.j_lt_m) w.result w.ensures
+    g.new.turn turned c.args.at.t c.requires.j_lt_m.1 c.take_over.new.taken c.args.work.now c.requires.t_in_bounds.1
     (before_fits _ _ _ _ c.args.listed.now.ready c.args.at.j c.args.at.t c.requires.j_lt_m.0 c.requires.j_lt_m.1 c.args.work.now c.take_over.new.taken (omega arith) taken c.requires.k_bound) in
     record { room = fits.0; p_in_bounds = fits.1 }
 
 pub returns : goal.returns
 returns c =
-    let shared : c.prepare-s.result ≡ length (shared_before (matrix_in c.args.listed.now.reads.shape c.args.listed.now.reads.bytes.now) c.args.at.j) = let w = c.from-p in
-    shared_are _ _ _ _ c.args.listed.now.ready c.args.at.j c.requires.j_lt_m.0 w.result w.ensures c.prepare-s.result (rw c.placed.ensures.1 at c.prepare-s.ensures.value) in
-    let taken : TakenBefore (matrix_in c.args.listed.now.reads.shape c.args.listed.now.reads.bytes.now) c.args.at.j c.args.work.now c.take_over.new.taken = handed _ _ _ _ c.args.listed.now.ready c.args.at.j c.args.at.t c.prepare-s.result c.requires.j_lt_m.0 c.requires.j_lt_m.1 shared c.args.work.now _ c.take_over.ensures in
+    let taken = taken_over c.args.listed.now c.requires.j_lt_m c.from-p.ensures (rw c.placed.ensures.1 at c.prepare-s.ensures.value) _ _ c.take_over.ensures in
     let w = c.from-p in
     let g = c.prepare-s in
     let turned = λ (i : ℕ) (k : i < c.from-p.result). rw c.placed.ensures.1 at (c.prepare-s.ensures.by_index_2 i k) in
     let pairs = λ (i : ℕ) (k : i < c.from-p.result). rw c.placed.ensures.0 at (c.prepare-s.ensures.by_index i k) in
-    pass_laid _ _ _ _ c.args.listed.now.ready c.args.at.j c.requires.j_lt_m.0 w.result w.ensures (mode_of c.args.at.heterozygous).charged c.args.at.t c.requires.j_lt_m.1 g.new.w g.new.turn
+    pass_laid _ _ _ _ c.args.listed.now.ready c.args.at.j c.requires.j_lt_m.0 _ (column c.args.listed.now c.requires.j_lt_m) w.result w.ensures
+    (mode_of c.args.at.heterozygous).charged c.args.at.t c.requires.j_lt_m.1 g.new.w g.new.turn
     c.take_over.new.taken c.args.work.now c.fill.new.part c.requires.t_in_bounds.1 pairs turned c.fill.ensures
     ∙ ap (λ (x : List ℕ). laid (c.args.at.j * c.args.at.t) x c.args.work.now)
     (before_over (charge_in (mode_of c.args.at.heterozygous)) (matrix_in c.args.listed.now.reads.shape c.args.listed.now.reads.bytes.now) c.args.at.j c.args.work.now c.take_over.new.taken taken)

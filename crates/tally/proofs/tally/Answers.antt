@@ -1,6 +1,7 @@
 use native.Mathlib.Omega.{arith}
 use Prim.Native.Nat.{◌≤◌}
-use Rattle.tally.proofs.Walk.{cut_read, weights, upto_none, upto_more, upto_small, tallied_all}
+use Rattle.layout.proofs.Cuts.{cut_noted}
+use Rattle.tally.proofs.Walk.{weights, upto_none, upto_more, upto_small, tallied_all}
 use Rattle.tally.proofs.tally.Goals as goal
 
 pub loop-r-init : goal.loop-r-init
@@ -8,24 +9,24 @@ loop-r-init c = upto_none _ _ _ _ (c.fill.ensures.after (λ y e. e))
 
 pub overflow_mul-e : goal.overflow_mul-e
 overflow_mul-e c =
-    let cut = cut_read c.args.placed.now c.loop-r.r c.loop-r-test.true _ _ _ c.start_of-s.ensures c.first_of-f.ensures c.end_of-t.ensures in
+    let cut = cut_noted c.args.placed.now.reads.lawful c.args.placed.now.noted c.loop-r.r c.loop-r-test.true in
     omega (arith, cut.inside)
 
 pub overflow_add-e : goal.overflow_add-e
 overflow_add-e c =
-    let cut = cut_read c.args.placed.now c.loop-r.r c.loop-r-test.true _ _ _ c.start_of-s.ensures c.first_of-f.ensures c.end_of-t.ensures in
+    let cut = cut_noted c.args.placed.now.reads.lawful c.args.placed.now.noted c.loop-r.r c.loop-r-test.true in
     omega (arith, cut.inside)
 
 pub slice_bounds-cells-end : goal.slice_bounds-cells-end
 slice_bounds-cells-end c =
-    let cut = cut_read c.args.placed.now c.loop-r.r c.loop-r-test.true _ _ _ c.start_of-s.ensures c.first_of-f.ensures c.end_of-t.ensures in
+    let cut = cut_noted c.args.placed.now.reads.lawful c.args.placed.now.noted c.loop-r.r c.loop-r-test.true in
     omega (arith, cut.inside)
 
 pub tally_read-requires : goal.tally_read-requires
 tally_read-requires c =
     let p = c.args.placed.now in
     let l = c.loop-r in
-    let cut = cut_read p l.r c.loop-r-test.true _ _ _ c.start_of-s.ensures c.first_of-f.ensures c.end_of-t.ensures in
+    let cut = cut_noted p.reads.lawful p.noted l.r c.loop-r-test.true in
     let few : l.r ≤ 1024 = omega (arith, p.reads.lawful.few-reads) in
     record {
       columns = (cut.ordered, cut.sized, omega (arith, cut.within), c.side_of.ensures.0);
@@ -35,7 +36,7 @@ tally_read-requires c =
 
 pub loop-r-preserved : goal.loop-r-preserved
 loop-r-preserved c =
-    let cut = cut_read c.args.placed.now c.loop-r.r c.loop-r-test.true _ _ _ c.start_of-s.ensures c.first_of-f.ensures c.end_of-t.ensures in
+    let cut = cut_noted c.args.placed.now.reads.lawful c.args.placed.now.noted c.loop-r.r c.loop-r-test.true in
     upto_more _ _ c.loop-r.r _ _ c.loop-r.tally c.tally_read.new.tally cut.whole c.side_of.ensures.1 c.loop-r.invariant c.tally_read.ensures
 
 pub returns : goal.returns

@@ -48,6 +48,7 @@ fn altered(x: usize, chance: &mut Chance) -> usize {
     }
 }
 
+// The two differ in how a number is read and written; what they share is `altered`.
 pub fn alter_byte(bytes: &mut Bytes, at: usize, chance: &mut Chance) {
     let x = altered(bytes.byte(at), chance);
     bytes.put(at, low(x));

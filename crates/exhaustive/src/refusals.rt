@@ -23,7 +23,7 @@ pub enum Refusal {
     Unsolved(usize),
 }
 
-// The two numbers of a call.
+// The two numbers of a call, as the documents state them and the call that is tried gives them.
 #[derive(Clone, Copy, PartialEq, Eq)]
 pub struct Numbers {
     pub number: usize,

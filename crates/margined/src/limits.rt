@@ -7,7 +7,8 @@ use exhaustive::refusals::Numbers;
 use exhaustive::rooms::Rooms;
 use report::lines::Tally;
 
-// Reads that are all alike, the rooms and the numbers of the run that are lent, and both numbers.
+// Reads that are all alike, the rooms and the numbers of the run that are lent, and both numbers. `phased` has no run, and another `held`:
+// one struct for both would carry a call.
 #[derive(Clone, Copy)]
 struct Limit {
     alike: Alike,

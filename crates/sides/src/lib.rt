@@ -21,6 +21,7 @@ fn back_at(listed: &Listed, j: usize, t: usize, work: &[u32], sides: &mut [u8])
     let column = &listed.lists[j];
     let p = usize::from(column.count);
     let s = back::going_on(&column.reads, p, listed.places, j);
+    // here and in `least_last`: a function for these two lines would need a contract longer than they are
     let from = j * t;
     let to = from + plain::entries(p);
     back::settle(&work[from..to], &column.reads, p, s, sides);

@@ -20,7 +20,8 @@ fn added(letter: usize, weight: u32) -> u32
     weight + ((1 - letter / 2) as u32) * 1048576
 }
 
-// The cells of one read, from column `from` to the column before `to`.
+// The cells of one read, from column `from` to the column before `to`. The tally is flat, four numbers a column: its run is the one in which
+// columns take over.
 fn tally_read(
     shape: layout::Shape,
     cells: &[u8],

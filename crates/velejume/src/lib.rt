@@ -58,7 +58,7 @@ fn told(found: Result<u32, Refusal>) -> Numbers
     }
 }
 
-// A call in the mode of the flag.
+// A call in the mode of the flag: a bool, as the contracts' `mode_of` takes it.
 fn called(
     block: &[u8],
     heterozygous: bool,

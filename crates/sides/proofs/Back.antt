@@ -1,5 +1,5 @@
 -- One column of the way back, said of the definitions with the code's own terms.
-use Prim.Native.Nat.{ℕ, zero, suc, ◌+◌, ◌-◌, ◌*◌, ◌≤◌, ◌<◌}
+use Prim.Native.Nat.{ℕ, zero, suc, ◌+◌, ◌*◌, ◌≤◌, ◌<◌}
 use mathlib.Core.Path.{◌≡◌, refl, sym, ap, ap₂, ◌∙◌, subst, fun_ext}
 use mathlib.Core.Bool.{Bool, true, false, not}
 use mathlib.Core.List.{List, [], ◌∷◌, ◌++◌}
@@ -16,7 +16,7 @@ use Rattle.meaning.specs.Active.{count, read, active, end, used, entries}
 use Rattle.meaning.specs.Closing.{active_reads, closing_at}
 use Rattle.meaning.specs.Division.{Division, first_over}
 use Rattle.meaning.specs.Answer.{division_of}
-use Rattle.meaning.specs.Rule.{entry_for, index_at, shared_reads, column_of, way_back}
+use Rattle.meaning.specs.Rule.{entry_for, shared_reads, column_of, way_back}
 use Rattle.meaning.proofs.Totals.{sum_ext}
 use Rattle.meaning.proofs.Lists.{sum_over, has-get_or, has_here, has_more, has-keep, and_right, Distinct}
 use Rattle.meaning.proofs.Least.{first_ext}
@@ -33,6 +33,7 @@ use Rattle.layout.specs.Ready.{Ready}
 use Rattle.layout.proofs.Laws.{count_is}
 use Rattle.table.proofs.Sizes.{column_sizes}
 use Rattle.table.proofs.Columns.{listed, height_is}
+use Rattle.sides.specs.Ways.{column_entries}
 
 sum-append : (xs ys : List ℕ) (f : ℕ → ℕ) → sum_over (xs ++ ys) f ≡ sum_over xs f + sum_over ys f
 sum-append [] ys f = omega arith
@@ -127,35 +128,24 @@ module _ (shape : Shape) (reads : List ℕ) (places : List Place) (lists : List 
     pub list_distinct : Distinct (take p col.reads)
     list_distinct = subst Distinct (sym list_is) (distinct_active M j)
 
-    -- the column's entries as a part of the work room
-    module _ (t : ℕ) (e : t ≡ entries M) (work : List ℕ) (room : shape.m * t ≤ length work) (n : ℕ) (f : n ≡ used p) where
-      entries_fit : n ≤ t
-      entries_fit = subst (λ (x : ℕ). x ≤ t) (sym (f ∙ ap used (q ∙ ap (λ (x : Column). x.count) here))) (column_sizes shape reads places lists ready j t l e).fits
-
-      pub entries-length : length (take (j * t + n - j * t) (drop (j * t) work)) ≡ used p
-      entries-length =
-          let z = column_sizes shape reads places lists ready j t l e in
-          let y : n ≤ t = entries_fit in
-          length-take-le (j * t + n - j * t) (drop (j * t) work) (omega (arith, length-drop (j * t) work)) ∙ omega arith
+    module _ (work : List ℕ) where
+      -- the column's entries, as many as the list's reads ask for
+      pub entries-length : shape.m * entries M ≤ length work → length (column_entries M work j) ≡ used p
+      entries-length room =
+          let z = column_sizes shape reads places lists ready j (entries M) l refl in
+          let fits : used (length (active_reads M j)) ≤ entries M = subst (λ (x : ℕ). used x ≤ entries M) z.counted z.fits in
+          let whole : length (column_of M work j) ≡ entries M = length-take-le (entries M) (drop (j * entries M) work) (omega (arith, z, length-drop (j * entries M) work)) in
+          length-take-le _ (column_of M work j) (omega arith) ∙ sym (ap used (height_is shape reads places lists ready j l col here p q))
 
       -- what the column's reads get is one step of the way back
       pub settled : (s : ℕ) → s ≡ length (shared_reads M j) → (old new : List ℕ)
-          → ((r : ℕ) → get_or new r 0 ≡ bit (first_over (drop s (take p col.reads))
-          (entry_for (take p col.reads) (take (j * t + n - j * t) (drop (j * t) work))) (division_of old) r))
+          → ((r : ℕ) → get_or new r 0 ≡ bit (first_over (drop s (take p col.reads)) (entry_for (take p col.reads) (column_entries M work j)) (division_of old) r))
           → (r : ℕ) → get_or new r 0 ≡ bit (first_over (closing_at M j) (entry_for (active_reads M j) (column_of M work j)) (division_of old) r)
       settled s g old new h r =
           h r
-          ∙ ap₂ (λ (x y : List ℕ). bit (first_over x (entry_for y (take (j * t + n - j * t) (drop (j * t) work))) (division_of old) r)) (closing_is s g) list_is
-          ∙ ap (λ (d : Division). bit (d r)) (first_ext (closing_at M j) (entry_for (active_reads M j) (take (j * t + n - j * t) (drop (j * t) work))) (entry_for (active_reads M j) (column_of M work j)) (division_of old) (λ d a. same d))
-        where
-          same : (d : Division) → entry_for (active_reads M j) (take (j * t + n - j * t) (drop (j * t) work)) d ≡ entry_for (active_reads M j) (column_of M work j) d
-          same d =
-              let k : ℕ = index_at (active_reads M j) d in
-              let y : n ≤ t = entries_fit in
-              let i : k < n = subst (λ (x : ℕ). k < x) (sym (f ∙ ap used (height_is shape reads places lists ready j l col here p q))) (index-used (active_reads M j) d) in
-              get_or-take (j * t + n - j * t) (drop (j * t) work) k 0 (omega arith)
-              ∙ ap (λ (a : ℕ). get_or (drop (j * a) work) k 0) e
-              ∙ sym (get_or-take (entries M) (drop (j * entries M) work) k 0 (omega arith))
+          ∙ ap₂ (λ (x y : List ℕ). bit (first_over x (entry_for y (column_entries M work j)) (division_of old) r)) (closing_is s g) list_is
+          ∙ ap (λ (d : Division). bit (d r)) (first_ext (closing_at M j) (entry_for (active_reads M j) (column_entries M work j)) (entry_for (active_reads M j) (column_of M work j)) (division_of old)
+          (λ d a. get_or-take _ (column_of M work j) _ 0 (index-used (active_reads M j) d)))
 
 -- sides that are bits, and the division that they give
 pub bits_division : (sides : List ℕ) (d : Division) → ((r : ℕ) → get_or sides r 0 ≡ bit (d r)) → division_of sides ≡ d

@@ -1,7 +1,7 @@
 -- The way back as a loop over the columns, and the least entry of the last column.
 use Prim.Native.Nat.{ℕ, zero, suc, ◌+◌, ◌-◌, ◌*◌, ◌/◌, ◌≤◌, ◌<◌}
 use mathlib.Core.Path.{◌≡◌, refl, sym, ap, ap₂, ◌∙◌, subst}
-use mathlib.Core.List.{List, []}
+use mathlib.Core.List.{List}
 use native.Mathlib.Nat.{le_trans, zero-add}
 use native.Mathlib.Omega.{arith}
 use lib.ListN.{length, get_or, take, drop, length-append}
@@ -22,10 +22,9 @@ use Rattle.layout.specs.declared.runs.Column.{Column}
 use Rattle.layout.specs.declared.shape.Shape.{Shape}
 use Rattle.layout.specs.Reads.{matrix_in}
 use Rattle.layout.specs.Places.{end_at}
-use Rattle.layout.specs.Lists.{no_reads}
 use Rattle.layout.specs.Ready.{Ready}
 use Rattle.table.proofs.Pass.{least_parts}
-use Rattle.table.proofs.Sizes.{column_sizes, column_read}
+use Rattle.table.proofs.Sizes.{column_sizes}
 use Rattle.table.proofs.Columns.{list-fits, list_read, height_is}
 use Rattle.sides.specs.Ways.{column_entries}
 use Rattle.sides.proofs.Back.{closes_behind, list_distinct, entries-length, bits_small, back_step}
@@ -68,21 +67,17 @@ module _ (shape : Shape) (reads : List ℕ) (places : List Place) (lists : List 
   pub last_column : (0 < shape.m) × (shape.m - 1 < shape.m)
   last_column = let h : 0 < shape.m = ready.lawful.some-column in omega arith
 
-  -- what is read of column j
-  pub column_is : (j : ℕ) → j < shape.m → get_or lists j (record { count = 0; reads = [] }) ≡ get_or lists j no_reads
-  column_is j l = column_read lists j (omega (arith, ready.piled.room))
-
-  -- its entries, n of them with t a column, lie in the table, and are cut out of it
+  -- column j's entries, n of them with t a column, lie in the table, and are cut out of it
   pub record Cut (j t n : ℕ) (work : List ℕ) : Type 0 where
     pub inside : j * t + n ≤ shape.m * t
     pub small : shape.m * t ≤ 2097152
     pub whole : take (j * t + n - j * t) (drop (j * t) work) ≡ column_entries M work j
 
-  pub cut : (j : ℕ) → j < shape.m → {p t n : ℕ} → p ≡ (get_or lists j (record { count = 0; reads = [] })).count → t ≡ entries M → n ≡ used p
+  pub cut : (j : ℕ) → j < shape.m → {list : List ℕ} {t n : ℕ} → list ≡ active_reads M j → t ≡ entries M → n ≡ used (length list)
       → (work : List ℕ) → Cut j t n work
-  cut j l {p} {t} {n} q e f work =
+  cut j l {list} {t} {n} here e f work =
       let sizes = column_sizes shape reads places lists ready j t l e in
-      let many : n ≡ used (length (active_reads M j)) = f ∙ ap used (height_is shape reads places lists ready j l _ (column_is j l) p q) in
+      let many : n ≡ used (length (active_reads M j)) = f ∙ ap (λ (x : List ℕ). used (length x)) here in
       let fits : n ≤ t = subst (λ (x : ℕ). x ≤ t) (sym (many ∙ ap used (sym sizes.counted))) sizes.fits in
       record {
         inside = omega (arith, sizes);
@@ -93,40 +88,40 @@ module _ (shape : Shape) (reads : List ℕ) (places : List Place) (lists : List 
             ∙ ap (λ (a : ℕ). take a (column_of M work j)) many;
       }
 
-  module _ (j : ℕ) (l : j < shape.m) (col : Column) (here : col ≡ get_or lists j no_reads) (p : ℕ) (q : p ≡ col.count) where
+  module _ (j : ℕ) (l : j < shape.m) (list : List ℕ) (here : list ≡ active_reads M j) where
     -- what is asked to count the reads that go on
-    pub going_fits : ((p ≤ 12) × (p ≤ length col.reads) × (j < 1024))
-        × (((i : ℕ) → i < p → get_or col.reads i 0 < length places)
-        × ((i : ℕ) → i + 1 < p → end_at places (get_or col.reads i 0) ≡ j + 1
-        → end_at places (get_or col.reads (i + 1) 0) ≡ j + 1))
+    pub going_fits : ((length list ≤ 12) × (j < 1024))
+        × (((i : ℕ) → i < length list → get_or list i 0 < length places)
+        × ((i : ℕ) → i + 1 < length list → end_at places (get_or list i 0) ≡ j + 1
+        → end_at places (get_or list (i + 1) 0) ≡ j + 1))
     going_fits =
-        let f = list-fits shape reads places lists ready j l col here p q in
-        let placed : (i : ℕ) → i < p → get_or col.reads i 0 < length places =
-        λ i k. le_trans (list_read shape reads places lists ready j l col here p q i k) ready.noted.room in
-        ((f.0, f.1, omega (arith, ready.lawful.few-columns)), (placed, closes_behind shape reads places lists ready j l col here p q))
+        let f = list-fits shape reads places lists ready j l list here in
+        let placed : (i : ℕ) → i < length list → get_or list i 0 < length places =
+        λ i k. le_trans (list_read shape reads places lists ready j l list here i k) ready.noted.room in
+        ((f, omega (arith, ready.lawful.few-columns)), (placed, closes_behind shape reads places lists ready j l list here))
 
     module _ (work : List ℕ) (room : shape.m * entries M ≤ length work) where
       -- and to settle those that close
       pub settle_fits : (s : ℕ) → s ≡ length (shared_reads M j) → (sides : List ℕ) → shape.n ≤ length sides → ((r : ℕ) → get_or sides r 0 ≤ 1)
-          → ((p ≤ 12) × (s ≤ p) × (p ≤ length col.reads) × Distinct (take p col.reads))
-          × (((i : ℕ) → i < p → get_or col.reads i 0 < length sides)
-          × ((length (column_entries M work j) ≡ used p) × ((r : ℕ) → get_or sides r 0 ≤ 1)))
+          → ((length list ≤ 12) × (s ≤ length list) × Distinct list)
+          × (((i : ℕ) → i < length list → get_or list i 0 < length sides)
+          × ((length (column_entries M work j) ≡ used (length list)) × ((r : ℕ) → get_or sides r 0 ≤ 1)))
       settle_fits s g sides many small =
-          let a = list-fits shape reads places lists ready j l col here p q in
+          let a = list-fits shape reads places lists ready j l list here in
           let split : length (active_reads M j) ≡ length (shared_reads M j) + length (closing_at M j) =
           ap length (active_split M j (l)) ∙ length-append (shared_reads M j) (closing_at M j) in
-          let h : p ≡ length (active_reads M j) = height_is shape reads places lists ready j l col here p q in (
-            (a.0, omega arith, a.1, list_distinct shape reads places lists ready j l col here p q),
+          let h : length list ≡ length (active_reads M j) = height_is shape reads places lists ready j l list here in (
+            (a, omega arith, list_distinct shape reads places lists ready j l list here),
             (
-              λ i k. le_trans (list_read shape reads places lists ready j l col here p q i k) many,
-              (entries-length shape reads places lists ready j l col here p q work room, small),
+              λ i k. le_trans (list_read shape reads places lists ready j l list here i k) many,
+              (entries-length shape reads places lists ready j l list here work room, small),
             ),
           )
 
   -- the least of column j's entries, all of one class
   module _ (j : ℕ) (l : j < shape.m) (work : List ℕ) (room : shape.m * entries M ≤ length work) where
     pub in_use : length (column_entries M work j) ≡ used (length (active_reads M j))
-    in_use = entries-length shape reads places lists ready j l _ refl _ refl work room ∙ ap used (ready.piled.holds j l).counted
+    in_use = entries-length shape reads places lists ready j l (active_reads M j) refl work room
 
     pub some : 0 < length (column_entries M work j)
     some = subst (λ (x : ℕ). 0 < x) (sym in_use) (pow_pos (length (active_reads M j) - 1))

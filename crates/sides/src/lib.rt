@@ -26,7 +26,7 @@ impl<'a> Table<'a> {
         requires { j < self.now.listed.reads.shape.m }
         ensures { result.now ≡ column_entries (matrix_of self.now.listed.reads) self.now.work.now j }
     {
-        let p = usize::from(self.listed.lists[j].count);
+        let p = self.listed.active_reads(j).len();
         let from = j * self.t;
         let to = from + plain::entries(p);
         &self.work[from..to]
@@ -40,10 +40,9 @@ impl<'a> Table<'a> {
         ensures { (r : ℕ) → get_or sides.new r 0
             ≡ bit (back_at (matrix_of self.now.listed.reads) self.now.work.now j (division_of sides.old) r) }
     {
-        let column = &self.listed.lists[j];
-        let p = usize::from(column.count);
-        let s = back::going_on(&column.reads, p, self.listed.places, j);
-        back::settle(self.column_entries(j), &column.reads, p, s, sides);
+        let list = self.listed.active_reads(j);
+        let s = back::going_on(list, self.listed.places, j);
+        back::settle(self.column_entries(j), list, s, sides);
     }
 
     // The way back through all columns, from all reads on side 0.

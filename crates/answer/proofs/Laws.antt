@@ -2,35 +2,33 @@
 use mathlib.Core.Path.{◌≡◌, refl, sym, ap, ap₂, ◌∙◌}
 use mathlib.Core.List.{List, [], ◌∷◌, ◌++◌, append_assoc}
 use Prim.Native.Nat.{ℕ, ◌+◌, ◌*◌, ◌/◌, ◌%◌, ◌≤◌}
-use native.Mathlib.Numerals.{add-one}
 use native.Mathlib.Nat.{zero-add}
 use native.Mathlib.Omega.{arith}
 use lib.ListN.{length, take, drop, set, length-append}
-use lib.Seq.{sets-eq}
+use Rattle.std.specs.Int.{w16, w32, to_be_bytes}
+use lib.Seq.{sets-eq, drop-drop}
+use borrow.Rule.Slice.PartMut.{put_mid}
 use Rattle.meaning.specs.Numbers.{bytes_of}
 use Rattle.meaning.specs.Answer.{answer_bytes}
 use Rattle.meaning.specs.Call.{laid, over}
 use Rattle.meaning.proofs.Rooms.{laid_join, laid_before, laid_front}
 use Rattle.answer.specs.Head.{head_bytes}
 
--- two stores
-pub word-laid : (l : List ℕ) (at x : ℕ) → at + 2 ≤ length l → set (set l at (x / 256 % 256)) (at + 1) (x % 256) ≡ laid at (bytes_of 2 x) l
-unfolding bytes_of
-word-laid l at x h =
-    ap (λ (n : ℕ). set (set l at (x / 256 % 256)) n (x % 256)) (add-one at)
-    ∙ sets-eq (x / 256 % 256 ∷ x % 256 ∷ []) l at h
-    ∙ append_assoc (take at l) (x / 256 % 256 ∷ x % 256 ∷ []) (drop (at + 2) l)
+-- a part that is stored anew is laid there
+pub part_laid : (l : List ℕ) (at k : ℕ) (b c : List ℕ) → b ≡ c → k ≡ length c → put_mid at k l b ≡ laid at c l
+part_laid l at k b c e n = ap₂ (λ (x y : List ℕ). take at l ++ (x ++ y)) e (drop-drop k at l ∙ ap (λ (m : ℕ). drop (at + m) l) n)
 
--- two words
-long_words : (x : ℕ) → bytes_of 2 (x / 65536) ++ bytes_of 2 x ≡ bytes_of 4 x
+-- the bytes of a word
+pub word_bytes : (x : ℕ) → to_be_bytes w16 (x % 65536) ≡ bytes_of 2 x
 unfolding bytes_of
-long_words x =
-    let a : x / 65536 ≡ x / 256 / 256 = omega arith in
-    ap (λ (y : ℕ). y / 256 % 256 ∷ y % 256 ∷ x / 256 % 256 ∷ x % 256 ∷ []) a
+word_bytes x = ap₂ (λ (a b : ℕ). a ∷ b ∷ []) (omega arith) (omega arith)
 
-pub long-laid : (l : List ℕ) (at x : ℕ) → at + 4 ≤ length l → laid (at + 2) (bytes_of 2 x) (laid at (bytes_of 2 (x / 65536)) l) ≡ laid at (bytes_of 4 x) l
+-- and of a long
+pub long_bytes : (x : ℕ) → to_be_bytes w32 (x % 4294967296) ≡ bytes_of 4 x
 unfolding bytes_of
-long-laid l at x h = laid_join at (bytes_of 2 (x / 65536)) (bytes_of 2 x) l (omega arith) ∙ ap (λ (b : List ℕ). laid at b l) (long_words x)
+long_bytes x =
+    ap₂ (λ (a b : ℕ). a ∷ b ∷ x % 4294967296 / 256 % 256 ∷ x % 4294967296 % 256 ∷ []) (omega arith) (omega arith)
+    ∙ ap₂ (λ (a b : ℕ). x / 256 / 256 / 256 % 256 ∷ x / 256 / 256 % 256 ∷ a ∷ b ∷ []) (omega arith) (omega arith)
 
 -- the head's six parts
 first-laid : (l : List ℕ) → 17 ≤ length l → set l 0 2 ≡ laid 0 (2 ∷ []) l

@@ -2,8 +2,7 @@
 use Prim.Native.Nat.{ℕ, zero, suc, ◌+◌, ◌-◌, ◌≤◌, ◌<◌}
 use borrow.Author.Tests.{eq-eqb, ne_eqb}
 use lib.Dec.{eqb}
-use lib.ListN.{length, get_or, take}
-use lib.Seq.{length-take-le, get_or-take}
+use lib.ListN.{length, get_or}
 use mathlib.Core.Bool.{Bool, not}
 use mathlib.Core.List.{List}
 use mathlib.Core.Logic.{◌≢◌}
@@ -17,12 +16,10 @@ use Rattle.std.proofs.lemmas.Grind.{get_or_default_zero}
 use Rattle.fold.specs.Turn.{shared_to}
 use Rattle.fold.proofs.Count.{count_none, count_yes, count_no}
 
--- a read from the first p places of a list whose reads are all below n
-pub listed_below : (list : List ℕ) (p n : ℕ) → p ≤ length list → ((i : ℕ) → i < p → get_or list i 0 < n)
-    → (r k : ℕ) → k < length (take p list) → r ≡ get_or (take p list) k r → r < n
-listed_below list p n l each r k m e =
-    let b : k < p = omega (arith, length-take-le p list l) in
-    rw (e ∙ get_or-take p list k r b ∙ get_or_default_zero list k r (omega arith)) (each k b)
+-- a read of a list whose reads are all below n
+pub listed_below : (list : List ℕ) (n : ℕ) → ((i : ℕ) → i < length list → get_or list i 0 < n)
+    → (r k : ℕ) → k < length list → r ≡ get_or list k r → r < n
+listed_below list n each r k m e = rw (e ∙ get_or_default_zero list k r m) (each k m)
 
 -- the end of the i-th read is `ends i`; it goes on where that is not `after`
 module _ (ends : ℕ → ℕ) (after : ℕ) where
@@ -52,16 +49,13 @@ module _ (ends : ℕ → ℕ) (after : ℕ) where
     rest_closes : i ≤ p → i ≡ shared_to goes_on i → i ≡ shared_to goes_on p
     rest_closes l h = let whole : i + (p - i) ≡ p = omega arith in h ∙ sym (ap (shared_to goes_on) (sym whole) ∙ (closing (p - i) (omega arith)).1)
 
--- so the place of the first that closes, p if none does, is how many go on
-pub goes_until : (list : List ℕ) (p : ℕ) → p ≤ length list → (end : ℕ → ℕ) (after : ℕ)
-    → ((i : ℕ) → i + 1 < p → end (get_or list i 0) ≡ after → end (get_or list (i + 1) 0) ≡ after) → (r : Option ℕ)
-    → MatchOption r (AllWithin (λ q. end q ≢ after) (take p list) 0 (length (take p list)))
-    (λ i. (i < length (take p list)) × HoldsAt (λ q. end q ≡ after) (take p list) i × AllWithin (λ q. end q ≢ after) (take p list) 0 i)
-    → unwrap_or r p ≡ shared_to (goes_on (λ i. end (get_or list i 0)) after) p
-goes_until list p l end after order None h =
-    let n : length (take p list) ≡ p = length-take-le p list l in
-    on_all (λ i. end (get_or list i 0)) after p (λ k m. rw (sym (get_or-take p list k 0 m)) (h k 0 (omega arith) (omega arith)))
-goes_until list p l end after order (Some i) h =
-    let m : i < p = omega (arith, h.0, length-take-le p list l) in
-    rest_closes (λ i. end (get_or list i 0)) after p order i (ap end (sym (get_or-take p list i 0 m)) ∙ h.1 0) (omega arith)
-    (on_all (λ i. end (get_or list i 0)) after i (λ k b. rw (sym (get_or-take p list k 0 (omega arith))) (h.2 k 0 (omega arith) b)))
+-- so the place of the first that closes, the list's length if none does, is how many go on
+pub goes_until : (list : List ℕ) (end : ℕ → ℕ) (after : ℕ)
+    → ((i : ℕ) → i + 1 < length list → end (get_or list i 0) ≡ after → end (get_or list (i + 1) 0) ≡ after) → (r : Option ℕ)
+    → MatchOption r (AllWithin (λ q. end q ≢ after) list 0 (length list))
+    (λ i. (i < length list) × HoldsAt (λ q. end q ≡ after) list i × AllWithin (λ q. end q ≢ after) list 0 i)
+    → unwrap_or r (length list) ≡ shared_to (goes_on (λ i. end (get_or list i 0)) after) (length list)
+goes_until list end after order None h = on_all (λ i. end (get_or list i 0)) after (length list) (λ k m. h k 0 (omega arith) m)
+goes_until list end after order (Some i) h =
+    rest_closes (λ i. end (get_or list i 0)) after (length list) order i (h.1 0) (omega (arith, h.0))
+    (on_all (λ i. end (get_or list i 0)) after i (λ k b. h.2 k 0 (omega arith) b))

@@ -25,19 +25,18 @@ pub fn least_from(col: &[u32], from: usize, step: usize) -> u32
     lowest
 }
 
-// How many of the first p reads of the list go on after column j: their last cell is not in it. Those that close there stand behind them.
-pub fn going_on(list: &[u16], p: usize, places: &[Place], j: usize) -> usize
-    requires p_bound { (p ≤ 12) × (p ≤ length list.now) × (j < 1024) }
-    requires by_index { (i : ℕ) → i < p → get_or list.now i 0 < length places.now }
-    requires by_index_2 { (i : ℕ) → i + 1 < p → end_at places.now (get_or list.now i 0) ≡ j + 1
+// How many reads of the list go on after column j: their last cell is not in it. Those that close there stand behind them.
+pub fn going_on(list: &[u16], places: &[Place], j: usize) -> usize
+    requires few { (length list.now ≤ 12) × (j < 1024) }
+    requires by_index { (i : ℕ) → i < length list.now → get_or list.now i 0 < length places.now }
+    requires by_index_2 { (i : ℕ) → i + 1 < length list.now → end_at places.now (get_or list.now i 0) ≡ j + 1
         → end_at places.now (get_or list.now (i + 1) 0) ≡ j + 1 }
-    ensures { result ≡ sum_to p (λ i. bit (not (eqb (end_at places.now (get_or list.now i 0)) (j + 1)))) }
+    ensures { result ≡ sum_to (length list.now) (λ i. bit (not (eqb (end_at places.now (get_or list.now i 0)) (j + 1)))) }
 {
     let after = j + 1;
-    list[..p]
-        .iter()
+    list.iter()
         .position(|&r| places[usize::from(r)].end as usize == after)
-        .unwrap_or(p)
+        .unwrap_or(list.len())
 }
 
 // The side of the i-th read of the list.
@@ -87,17 +86,17 @@ fn first_side(col: &[u32], low: usize, head: usize, i: usize) -> u8
 }
 
 // The reads after the first s of the list, one by one.
-fn settle_from(col: &[u32], list: &[u16], p: usize, s: usize, sides: &mut [u8])
-    requires p_bound { (p ≤ 12) × (0 < s) × (s ≤ p) × (p ≤ length list.now) × Distinct (take p list.now) }
-    requires by_index { (i : ℕ) → i < p → get_or list.now i 0 < length sides.old }
-    requires col_len { length col.now ≡ used p }
+fn settle_from(col: &[u32], list: &[u16], s: usize, sides: &mut [u8])
+    requires few { (length list.now ≤ 12) × (0 < s) × (s ≤ length list.now) × Distinct list.now }
+    requires by_index { (i : ℕ) → i < length list.now → get_or list.now i 0 < length sides.old }
+    requires col_len { length col.now ≡ used (length list.now) }
     requires by_index_2 { (r : ℕ) → get_or sides.old r 0 ≤ 1 }
     ensures { (r : ℕ) → get_or sides.new r 0
-        ≡ bit (settled col.now list.now p s sides.old r) }
+        ≡ bit (settled col.now list.now s sides.old r) }
 {
     let head = side_of(list, 0, sides);
     let mut low = fixed(list, s, sides);
-    for i in s..p {
+    for i in s..list.len() {
         let side = first_side(col, low, head, i);
         let r = usize::from(list[i]);
         sides[r] = side;
@@ -106,22 +105,22 @@ fn settle_from(col: &[u32], list: &[u16], p: usize, s: usize, sides: &mut [u8])
 }
 
 // The reads of the list that close, those after the first s, get the first sides in closing order that have the least entry.
-pub fn settle(col: &[u32], list: &[u16], p: usize, s: usize, sides: &mut [u8])
-    requires p_bound { (p ≤ 12) × (s ≤ p) × (p ≤ length list.now) × Distinct (take p list.now) }
-    requires by_index { (i : ℕ) → i < p → get_or list.now i 0 < length sides.old }
-    requires col_len { length col.now ≡ used p }
+pub fn settle(col: &[u32], list: &[u16], s: usize, sides: &mut [u8])
+    requires few { (length list.now ≤ 12) × (s ≤ length list.now) × Distinct list.now }
+    requires by_index { (i : ℕ) → i < length list.now → get_or list.now i 0 < length sides.old }
+    requires col_len { length col.now ≡ used (length list.now) }
     requires by_index_2 { (r : ℕ) → get_or sides.old r 0 ≤ 1 }
     ensures { (r : ℕ) → get_or sides.new r 0
-        ≡ bit (settled col.now list.now p s sides.old r) }
+        ≡ bit (settled col.now list.now s sides.old r) }
 {
-    if s == p {
+    if s == list.len() {
         return;
     }
     if s == 0 {
         let r = usize::from(list[0]);
         sides[r] = 0;
-        settle_from(col, list, p, 1, sides);
+        settle_from(col, list, 1, sides);
         return;
     }
-    settle_from(col, list, p, s, sides);
+    settle_from(col, list, s, sides);
 }

@@ -33,7 +33,7 @@ pub taken_cell : {s : Shape} {reads : List ℕ} {r j x from to : ℕ} → Here s
     × (cell_at s.size (part s.size reads x from to) k ≡ at (read (matrix_in s reads) r) j)
 taken_cell h k e = rw e (h.within, h.cell_good, h.cell-at)
 
-module _ (placed : Placed) {list : List ℕ} {p j : ℕ} (laid : Laid placed list p j) (i : ℕ) (l : i < p) where
+module _ (placed : Placed) {list : List ℕ} {j : ℕ} (laid : Laid placed list j) (i : ℕ) (l : i < length list) where
   abbrev s : Shape
   s = placed.reads.shape
 

@@ -25,31 +25,30 @@ fn weights(shape: layout::Shape, cells: &[u8], i: usize) -> [u32; 2]
     [y, x - y]
 }
 
-// What the first p reads of the list bring to the pass of column j: their weights there, and the masks by which they turn
+// What the active reads of column j, a list of them in closing order, bring to its pass: their weights there, and the masks by which they turn
 // the folded index. Gives how many of them are shared with the column before.
 pub fn prepare(
     placed: &layout::Placed,
     list: &[u16],
-    p: usize,
     j: usize,
     w: &mut [[u32; 2]; 12],
     turn: &mut [usize; 12],
 ) -> usize
-    requires { Laid placed.now list.now p j }
-    ensures value { result ≡ shared_to (starts_before (first_at placed.now.places.now) list.now j) p }
-    ensures by_index { (i : ℕ) → i < p
+    requires { Laid placed.now list.now j }
+    ensures value { result ≡ shared_to (starts_before (first_at placed.now.places.now) list.now j) (length list.now) }
+    ensures by_index { (i : ℕ) → i < length list.now
         → get_or w.new i [] ≡ pair_of (at (read (matrix_of placed.now.reads) (get_or list.now i 0)) j) }
-    ensures light_pairs { LightPairs w.new p 65535 }
-    ensures by_index_2 { (i : ℕ) → i < p
-        → get_or turn.new i 0 ≡ turn_at (starts_before (first_at placed.now.places.now) list.now j) p i }
+    ensures light_pairs { LightPairs w.new (length list.now) 65535 }
+    ensures by_index_2 { (i : ℕ) → i < length list.now
+        → get_or turn.new i 0 ≡ turn_at (starts_before (first_at placed.now.places.now) list.now j) (length list.now) i }
 {
     let shape = placed.reads.shape;
     let bytes = placed.reads.bytes;
     let places = placed.places;
     let mut seen: usize = 0;
     let mut head: usize = 0;
-    for i in 0..p {
-        let r = usize::from(list[i]);
+    for (i, read) in list.iter().enumerate() {
+        let r = usize::from(*read);
         let place = places[r];
         let a = place.start as usize;
         let f = place.first as usize;

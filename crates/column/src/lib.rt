@@ -8,6 +8,7 @@ mod pass;
 mod walk;
 
 // A column with p active reads: their pairs of weights, their masks, what it takes over from the column before, and the mode.
+// Pairs and masks are arrays of their own: the definitions sum the one and fold with the other, and of one array of both each would be a map.
 #[derive(Clone, Copy)]
 pub struct Column<'a> {
     pub w: &'a [[u32; 2]; 12],

@@ -11,6 +11,7 @@ ghost use Rattle.verdict.specs.Verdicts.{judged_of};
 
 use layout::{Column, Listed, Place, Placed, Reads};
 use refusal::Refusal;
+use sides::Table;
 use verdict::Verdict;
 
 // The check 10, then the table and the verdict. `t` is T.
@@ -40,15 +41,9 @@ fn sized(
         places: placed.places,
         lists,
     };
+    let table = Table { listed, t, work };
     let e = 4 * shape.m;
-    let v = verdict::judged(
-        &listed,
-        t,
-        work,
-        &mut scratch[..e],
-        answer,
-        &mut sides[..shape.n],
-    );
+    let v = verdict::judged(&table, &mut scratch[..e], answer, &mut sides[..shape.n]);
     Ok(v)
 }
 

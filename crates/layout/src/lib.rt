@@ -18,7 +18,7 @@ pub fn word_at(b: &[u8], at: usize) -> usize
     requires { at + 2 ≤ length b.now }
     ensures { (result ≡ word b.now at) × (result < 65536) }
 {
-    usize::from(b[at]) * 256 + usize::from(b[at + 1])
+    usize::from(u16::from_be_bytes([b[at], b[at + 1]]))
 }
 
 // The big-endian number of the four bytes from `at` on.
@@ -27,5 +27,5 @@ pub fn long_at(b: &[u8], at: usize) -> usize
     requires { at + 4 ≤ length b.now }
     ensures { (result ≡ long b.now at) × (result < 4294967296) }
 {
-    word_at(b, at) * 65536 + word_at(b, at + 2)
+    u32::from_be_bytes([b[at], b[at + 1], b[at + 2], b[at + 3]]) as usize
 }

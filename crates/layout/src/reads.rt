@@ -1,7 +1,8 @@
 // Reads that pass the checks, and the runs that are made of them, as types: who has one of these need not check again.
-ghost use Rattle.std.specs.Prelude.{◌≡◌};
+ghost use Rattle.std.specs.Prelude.{◌≡◌, ◌<◌};
+ghost use Rattle.meaning.specs.Closing.{active_reads};
 ghost use Rattle.meaning.proofs.Bounds.{Bytes};
-ghost use Rattle.layout.specs.Reads.{Lawful};
+ghost use Rattle.layout.specs.Reads.{matrix_in, Lawful};
 ghost use Rattle.layout.specs.Places.{Noted};
 ghost use Rattle.layout.specs.Ready.{Ready};
 
@@ -42,5 +43,14 @@ impl<'a> Listed<'a> {
             reads: self.reads,
             places: self.places,
         }
+    }
+
+    // The active reads of column j, in closing order.
+    pub fn active_reads(&self, j: usize) -> &'a [u16]
+        requires { j < self.now.reads.shape.m }
+        ensures { result.now ≡ active_reads (matrix_in self.now.reads.shape self.now.reads.bytes.now) j }
+    {
+        let column = &self.lists[j];
+        &column.reads[..usize::from(column.count)]
     }
 }

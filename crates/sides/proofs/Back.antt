@@ -1,12 +1,12 @@
 -- One column of the way back, said of the definitions with the code's own terms.
-use Prim.Native.Nat.{ℕ, zero, suc, ◌+◌, ◌-◌, ◌*◌, ◌≤◌, ◌<◌}
+use Prim.Native.Nat.{ℕ, zero, suc, ◌+◌, ◌*◌, ◌≤◌, ◌<◌}
 use mathlib.Core.Path.{◌≡◌, refl, sym, ap, ap₂, ◌∙◌, subst, fun_ext}
 use mathlib.Core.Bool.{Bool, true, false, not}
 use mathlib.Core.List.{List, [], ◌∷◌, ◌++◌}
 use mathlib.Core.Logic.{◌≢◌}
 use native.Mathlib.Numerals.{add-one}
 use native.Mathlib.Omega.{arith}
-use lib.ListN.{length, get_or, take, drop, length-drop}
+use lib.ListN.{length, get_or, drop, length-drop}
 use lib.Seq.{get_or-take, length-take-le, drop_at}
 use lib.Dec.{eqb}
 use borrow.Author.Tests.{eq-eqb, ne_eqb}
@@ -16,7 +16,7 @@ use Rattle.meaning.specs.Active.{count, read, active, end, used, entries}
 use Rattle.meaning.specs.Closing.{active_reads, closing_at}
 use Rattle.meaning.specs.Division.{Division, first_over}
 use Rattle.meaning.specs.Answer.{division_of}
-use Rattle.meaning.specs.Rule.{entry_for, index_at, shared_reads, column_of, way_back}
+use Rattle.meaning.specs.Rule.{entry_for, shared_reads, column_of, way_back}
 use Rattle.meaning.proofs.Totals.{sum_ext}
 use Rattle.meaning.proofs.Lists.{sum_over, has-get_or, has_here, has_more, has-keep, and_right, Distinct}
 use Rattle.meaning.proofs.Least.{first_ext}
@@ -28,11 +28,11 @@ use Rattle.layout.specs.declared.runs.Column.{Column}
 use Rattle.layout.specs.declared.shape.Shape.{Shape}
 use Rattle.layout.specs.Reads.{matrix_in}
 use Rattle.layout.specs.Places.{end_at}
-use Rattle.layout.specs.Lists.{no_reads, reads_at}
 use Rattle.layout.specs.Ready.{Ready}
 use Rattle.layout.proofs.Laws.{count_is}
 use Rattle.table.proofs.Sizes.{column_sizes}
 use Rattle.table.proofs.Columns.{listed, height_is}
+use Rattle.sides.specs.Ways.{column_entries}
 
 sum-append : (xs ys : List ℕ) (f : ℕ → ℕ) → sum_over (xs ++ ys) f ≡ sum_over xs f + sum_over ys f
 sum-append [] ys f = omega arith
@@ -87,75 +87,60 @@ module _ (shape : Shape) (reads : List ℕ) (places : List Place) (lists : List 
   ends_are : (r : ℕ) → r < count M → end_at places r ≡ end (read M r)
   ends_are r l = ready.noted.ends r (subst (λ (n : ℕ). r < n) (count_is shape reads) l)
 
-  module _ (j : ℕ) (l : j < shape.m) (col : Column) (here : col ≡ get_or lists j no_reads) (p : ℕ) (q : p ≡ col.count) where
-    -- the list's first p places are the column's active reads
-    pub list_is : take p col.reads ≡ active_reads M j
-    list_is = ap (λ (x : Column). take p x.reads) here ∙ ap (λ (n : ℕ). take n (reads_at lists j)) (height_is shape reads places lists ready j l col here p q) ∙ (ready.piled.holds j l).listed
-
+  module _ (j : ℕ) (l : j < shape.m) (list : List ℕ) (here : list ≡ active_reads M j) where
     -- the ends that the list's reads have
-    ends-listed : (i : ℕ) → i < length (active_reads M j) → end_at places (get_or col.reads i 0) ≡ end (read M (get_or (active_reads M j) i 0))
+    ends-listed : (i : ℕ) → i < length (active_reads M j) → end_at places (get_or list i 0) ≡ end (read M (get_or (active_reads M j) i 0))
     ends-listed i k =
         let r : ℕ = get_or (active_reads M j) i 0 in
-        ap (λ (x : ℕ). end_at places x) (listed shape reads places lists ready j l col here p q i k) ∙ ends_are r (active_lt M j r (has-get_or (active_reads M j) i k))
+        ap (λ (x : ℕ). end_at places x) (listed shape reads places lists ready j l list here i) ∙ ends_are r (active_lt M j r (has-get_or (active_reads M j) i k))
 
     -- those that close stand behind those that go on
-    pub closes_behind : (i : ℕ) → i + 1 < p → end_at places (get_or col.reads i 0) ≡ j + 1
-        → end_at places (get_or col.reads (i + 1) 0) ≡ j + 1
+    pub closes_behind : (i : ℕ) → i + 1 < length list → end_at places (get_or list i 0) ≡ j + 1
+        → end_at places (get_or list (i + 1) 0) ≡ j + 1
     closes_behind i k h =
-        let many : p ≡ length (active_reads M j) = height_is shape reads places lists ready j l col here p q in
-        ap (λ (n : ℕ). end_at places (get_or col.reads n 0)) (add-one i)
+        let many : length list ≡ length (active_reads M j) = height_is shape reads places lists ready j l list here in
+        ap (λ (n : ℕ). end_at places (get_or list n 0)) (add-one i)
         ∙ ends-listed (suc i) (omega arith)
         ∙ next_closes M j l i (omega arith) (sym (ends-listed i (omega arith)) ∙ h ∙ add-one j)
         ∙ sym (add-one j)
 
     -- those that go on are the shared reads
-    pub going_is : (s : ℕ) → s ≡ sum_to p (λ i. bit (not (eqb (end_at places (get_or col.reads i 0)) (j + 1)))) → s ≡ length (shared_reads M j)
+    pub going_is : (s : ℕ) → s ≡ sum_to (length list) (λ i. bit (not (eqb (end_at places (get_or list i 0)) (j + 1)))) → s ≡ length (shared_reads M j)
     going_is s h =
         h
-        ∙ sum_ext p (λ i k. each i (subst (λ (x : ℕ). i < x) (height_is shape reads places lists ready j l col here p q) k))
-        ∙ ap (λ (n : ℕ). sum_to n (λ i. goes M j (get_or (active_reads M j) i 0))) (height_is shape reads places lists ready j l col here p q)
+        ∙ sum_ext (length list) (λ i k. each i (subst (λ (x : ℕ). i < x) (height_is shape reads places lists ready j l list here) k))
+        ∙ ap (λ (n : ℕ). sum_to n (λ i. goes M j (get_or (active_reads M j) i 0))) (height_is shape reads places lists ready j l list here)
         ∙ sym (sum_places (active_reads M j) (goes M j))
         ∙ going M j l
       where
-        each : (i : ℕ) → i < length (active_reads M j) → bit (not (eqb (end_at places (get_or col.reads i 0)) (j + 1))) ≡ goes M j (get_or (active_reads M j) i 0)
+        each : (i : ℕ) → i < length (active_reads M j) → bit (not (eqb (end_at places (get_or list i 0)) (j + 1))) ≡ goes M j (get_or (active_reads M j) i 0)
         each i k = ap₂ (λ (x y : ℕ). bit (not (eqb x y))) (ends-listed i k) (add-one j)
 
-    pub closing_is : (s : ℕ) → s ≡ length (shared_reads M j) → drop s (take p col.reads) ≡ closing_at M j
+    pub closing_is : (s : ℕ) → s ≡ length (shared_reads M j) → drop s list ≡ closing_at M j
     closing_is s e =
-        ap (drop s) (list_is ∙ active_split M j l) ∙ drop_at (shared_reads M j) (closing_at M j) s (sym e)
+        ap (drop s) (here ∙ active_split M j l) ∙ drop_at (shared_reads M j) (closing_at M j) s (sym e)
 
-    pub list_distinct : Distinct (take p col.reads)
-    list_distinct = subst Distinct (sym list_is) (distinct_active M j)
+    pub list_distinct : Distinct list
+    list_distinct = subst Distinct (sym here) (distinct_active M j)
 
-    -- the column's entries as a part of the work room
-    module _ (t : ℕ) (e : t ≡ entries M) (work : List ℕ) (room : shape.m * t ≤ length work) (n : ℕ) (f : n ≡ used p) where
-      entries_fit : n ≤ t
-      entries_fit = subst (λ (x : ℕ). x ≤ t) (sym (f ∙ ap used (q ∙ ap (λ (x : Column). x.count) here))) (column_sizes shape reads places lists ready j t l e).fits
-
-      pub entries-length : length (take (j * t + n - j * t) (drop (j * t) work)) ≡ used p
-      entries-length =
-          let z = column_sizes shape reads places lists ready j t l e in
-          let y : n ≤ t = entries_fit in
-          length-take-le (j * t + n - j * t) (drop (j * t) work) (omega (arith, length-drop (j * t) work)) ∙ omega arith
+    module _ (work : List ℕ) where
+      -- the column's entries, as many as its reads ask for
+      pub entries-length : shape.m * entries M ≤ length work → length (column_entries M work j) ≡ used (length list)
+      entries-length room =
+          let z = column_sizes shape reads places lists ready j (entries M) l refl in
+          let fits : used (length (active_reads M j)) ≤ entries M = subst (λ (x : ℕ). used x ≤ entries M) z.counted z.fits in
+          let whole : length (column_of M work j) ≡ entries M = length-take-le (entries M) (drop (j * entries M) work) (omega (arith, z, length-drop (j * entries M) work)) in
+          length-take-le _ (column_of M work j) (omega arith) ∙ sym (ap used (height_is shape reads places lists ready j l list here))
 
       -- what the column's reads get is one step of the way back
       pub settled : (s : ℕ) → s ≡ length (shared_reads M j) → (old new : List ℕ)
-          → ((r : ℕ) → get_or new r 0 ≡ bit (first_over (drop s (take p col.reads))
-          (entry_for (take p col.reads) (take (j * t + n - j * t) (drop (j * t) work))) (division_of old) r))
+          → ((r : ℕ) → get_or new r 0 ≡ bit (first_over (drop s list) (entry_for list (column_entries M work j)) (division_of old) r))
           → (r : ℕ) → get_or new r 0 ≡ bit (first_over (closing_at M j) (entry_for (active_reads M j) (column_of M work j)) (division_of old) r)
       settled s g old new h r =
           h r
-          ∙ ap₂ (λ (x y : List ℕ). bit (first_over x (entry_for y (take (j * t + n - j * t) (drop (j * t) work))) (division_of old) r)) (closing_is s g) list_is
-          ∙ ap (λ (d : Division). bit (d r)) (first_ext (closing_at M j) (entry_for (active_reads M j) (take (j * t + n - j * t) (drop (j * t) work))) (entry_for (active_reads M j) (column_of M work j)) (division_of old) (λ d a. same d))
-        where
-          same : (d : Division) → entry_for (active_reads M j) (take (j * t + n - j * t) (drop (j * t) work)) d ≡ entry_for (active_reads M j) (column_of M work j) d
-          same d =
-              let k : ℕ = index_at (active_reads M j) d in
-              let y : n ≤ t = entries_fit in
-              let i : k < n = subst (λ (x : ℕ). k < x) (sym (f ∙ ap used (height_is shape reads places lists ready j l col here p q))) (index-used (active_reads M j) d) in
-              get_or-take (j * t + n - j * t) (drop (j * t) work) k 0 (omega arith)
-              ∙ ap (λ (a : ℕ). get_or (drop (j * a) work) k 0) e
-              ∙ sym (get_or-take (entries M) (drop (j * entries M) work) k 0 (omega arith))
+          ∙ ap₂ (λ (x y : List ℕ). bit (first_over x (entry_for y (column_entries M work j)) (division_of old) r)) (closing_is s g) here
+          ∙ ap (λ (d : Division). bit (d r)) (first_ext (closing_at M j) (entry_for (active_reads M j) (column_entries M work j)) (entry_for (active_reads M j) (column_of M work j)) (division_of old)
+          (λ d a. get_or-take _ (column_of M work j) _ 0 (index-used (active_reads M j) d)))
 
 -- sides that are bits, and the division that they give
 pub bits_division : (sides : List ℕ) (d : Division) → ((r : ℕ) → get_or sides r 0 ≡ bit (d r)) → division_of sides ≡ d

@@ -1,11 +1,11 @@
 -- The way back as a loop over the columns, and the least entry of the last column.
 use Prim.Native.Nat.{ℕ, zero, suc, ◌+◌, ◌-◌, ◌*◌, ◌/◌, ◌≤◌, ◌<◌}
-use mathlib.Core.Path.{◌≡◌, refl, sym, ap, ◌∙◌, subst}
-use mathlib.Core.List.{List, []}
+use mathlib.Core.Path.{◌≡◌, refl, sym, ap, ap₂, ◌∙◌, subst}
+use mathlib.Core.List.{List}
 use native.Mathlib.Nat.{le_trans, zero-add}
 use native.Mathlib.Omega.{arith}
 use lib.ListN.{length, get_or, take, drop, length-append}
-use lib.Seq.{get_or-take, ext_get_or}
+use lib.Seq.{get_or-take, take-take, ext_get_or}
 use lib.Pow.{pow_pos}
 use lib.Dec.{eqb}
 use Rattle.meaning.specs.Numbers.{bit, run}
@@ -22,11 +22,11 @@ use Rattle.layout.specs.declared.runs.Column.{Column}
 use Rattle.layout.specs.declared.shape.Shape.{Shape}
 use Rattle.layout.specs.Reads.{matrix_in}
 use Rattle.layout.specs.Places.{end_at}
-use Rattle.layout.specs.Lists.{no_reads}
 use Rattle.layout.specs.Ready.{Ready}
 use Rattle.table.proofs.Pass.{least_parts}
-use Rattle.table.proofs.Sizes.{column_sizes, column_read}
+use Rattle.table.proofs.Sizes.{column_sizes}
 use Rattle.table.proofs.Columns.{list-fits, list_read, height_is}
+use Rattle.sides.specs.Ways.{column_entries}
 use Rattle.sides.proofs.Back.{closes_behind, list_distinct, entries-length, bits_small, back_step}
 
 -- sides that are bits of a division, n of them
@@ -67,69 +67,72 @@ module _ (shape : Shape) (reads : List ℕ) (places : List Place) (lists : List 
   pub last_column : (0 < shape.m) × (shape.m - 1 < shape.m)
   last_column = let h : 0 < shape.m = ready.lawful.some-column in omega arith
 
-  -- what is read of column j
-  pub column_is : (j : ℕ) → j < shape.m → get_or lists j (record { count = 0; reads = [] }) ≡ get_or lists j no_reads
-  column_is j l = column_read lists j (omega (arith, ready.piled.room))
+  -- column j's entries, n of them with t a column, lie in the table, and are cut out of it
+  pub record Cut (j t n : ℕ) (work : List ℕ) : Type 0 where
+    pub inside : j * t + n ≤ shape.m * t
+    pub small : shape.m * t ≤ 2097152
+    pub whole : take (j * t + n - j * t) (drop (j * t) work) ≡ column_entries M work j
 
-  -- its entries lie in the table
-  pub part_fits : (j : ℕ) → j < shape.m → {p t n : ℕ} → p ≡ (get_or lists j (record { count = 0; reads = [] })).count → t ≡ entries M → n ≡ used p
-      → (j * t + n ≤ shape.m * t) × (shape.m * t ≤ 2097152)
-  part_fits j l {p} {t} {n} q e f =
+  pub cut : (j : ℕ) → j < shape.m → {list : List ℕ} {t n : ℕ} → list ≡ active_reads M j → t ≡ entries M → n ≡ used (length list)
+      → (work : List ℕ) → Cut j t n work
+  cut j l {list} {t} {n} here e f work =
       let sizes = column_sizes shape reads places lists ready j t l e in
-      let fits : n ≤ t = subst (λ (x : ℕ). x ≤ t) (sym (f ∙ ap used (q ∙ ap (λ (x : Column). x.count) (column_is j l)))) sizes.fits in
-      omega (arith, sizes, fits)
+      let many : n ≡ used (length (active_reads M j)) = f ∙ ap (λ (x : List ℕ). used (length x)) here in
+      let fits : n ≤ t = subst (λ (x : ℕ). x ≤ t) (sym (many ∙ ap used (sym sizes.counted))) sizes.fits in
+      record {
+        inside = omega (arith, sizes);
+        small = sizes.table-size;
+        whole =
+            ap₂ (λ (a b : ℕ). take a (drop (j * b) work)) (omega arith) e
+            ∙ sym (take-take n (entries M) (drop (j * entries M) work) (omega arith))
+            ∙ ap (λ (a : ℕ). take a (column_of M work j)) many;
+      }
 
-  module _ (j : ℕ) (l : j < shape.m) (col : Column) (here : col ≡ get_or lists j no_reads) (p : ℕ) (q : p ≡ col.count) where
+  module _ (j : ℕ) (l : j < shape.m) (list : List ℕ) (here : list ≡ active_reads M j) where
     -- what is asked to count the reads that go on
-    pub going_fits : ((p ≤ 12) × (p ≤ length col.reads) × (j < 1024))
-        × (((i : ℕ) → i < p → get_or col.reads i 0 < length places)
-        × ((i : ℕ) → i + 1 < p → end_at places (get_or col.reads i 0) ≡ j + 1
-        → end_at places (get_or col.reads (i + 1) 0) ≡ j + 1))
+    pub going_fits : ((length list ≤ 12) × (j < 1024))
+        × (((i : ℕ) → i < length list → get_or list i 0 < length places)
+        × ((i : ℕ) → i + 1 < length list → end_at places (get_or list i 0) ≡ j + 1
+        → end_at places (get_or list (i + 1) 0) ≡ j + 1))
     going_fits =
-        let f = list-fits shape reads places lists ready j l col here p q in
-        let placed : (i : ℕ) → i < p → get_or col.reads i 0 < length places =
-        λ i k. le_trans (list_read shape reads places lists ready j l col here p q i k) ready.noted.room in
-        ((f.0, f.1, omega (arith, ready.lawful.few-columns)), (placed, closes_behind shape reads places lists ready j l col here p q))
+        let f = list-fits shape reads places lists ready j l list here in
+        let placed : (i : ℕ) → i < length list → get_or list i 0 < length places =
+        λ i k. le_trans (list_read shape reads places lists ready j l list here i k) ready.noted.room in
+        ((f, omega (arith, ready.lawful.few-columns)), (placed, closes_behind shape reads places lists ready j l list here))
 
-    module _ (t : ℕ) (e : t ≡ entries M) (work : List ℕ) (room : shape.m * t ≤ length work) (n : ℕ) (f : n ≡ used p) where
+    module _ (work : List ℕ) (room : shape.m * entries M ≤ length work) where
       -- and to settle those that close
       pub settle_fits : (s : ℕ) → s ≡ length (shared_reads M j) → (sides : List ℕ) → shape.n ≤ length sides → ((r : ℕ) → get_or sides r 0 ≤ 1)
-          → ((p ≤ 12) × (s ≤ p) × (p ≤ length col.reads) × Distinct (take p col.reads))
-          × (((i : ℕ) → i < p → get_or col.reads i 0 < length sides)
-          × ((length (take (j * t + n - j * t) (drop (j * t) work)) ≡ used p) × ((r : ℕ) → get_or sides r 0 ≤ 1)))
+          → ((length list ≤ 12) × (s ≤ length list) × Distinct list)
+          × (((i : ℕ) → i < length list → get_or list i 0 < length sides)
+          × ((length (column_entries M work j) ≡ used (length list)) × ((r : ℕ) → get_or sides r 0 ≤ 1)))
       settle_fits s g sides many small =
-          let a = list-fits shape reads places lists ready j l col here p q in
+          let a = list-fits shape reads places lists ready j l list here in
           let split : length (active_reads M j) ≡ length (shared_reads M j) + length (closing_at M j) =
           ap length (active_split M j (l)) ∙ length-append (shared_reads M j) (closing_at M j) in
-          let h : p ≡ length (active_reads M j) = height_is shape reads places lists ready j l col here p q in (
-            (a.0, omega arith, a.1, list_distinct shape reads places lists ready j l col here p q),
+          let h : length list ≡ length (active_reads M j) = height_is shape reads places lists ready j l list here in (
+            (a, omega arith, list_distinct shape reads places lists ready j l list here),
             (
-              λ i k. le_trans (list_read shape reads places lists ready j l col here p q i k) many,
-              (entries-length shape reads places lists ready j l col here p q t e work room n f, small),
+              λ i k. le_trans (list_read shape reads places lists ready j l list here i k) many,
+              (entries-length shape reads places lists ready j l list here work room, small),
             ),
           )
 
-      some : 0 < n
-      some = subst (λ (x : ℕ). 0 < x) (sym f) (pow_pos (p - 1))
+  -- the least of column j's entries, all of one class
+  module _ (j : ℕ) (l : j < shape.m) (work : List ℕ) (room : shape.m * entries M ≤ length work) where
+    pub in_use : length (column_entries M work j) ≡ used (length (active_reads M j))
+    in_use = entries-length shape reads places lists ready j l (active_reads M j) refl work room
 
-      part_length : length (take (j * t + n - j * t) (drop (j * t) work)) ≡ n
-      part_length = entries-length shape reads places lists ready j l col here p q t e work room n f ∙ sym f
+    pub some : 0 < length (column_entries M work j)
+    some = subst (λ (x : ℕ). 0 < x) (sym in_use) (pow_pos (length (active_reads M j) - 1))
 
-      -- the column's entries, all of one class
-      pub least_is : (x : ℕ) → x ≡ least_at 1 (length (take (j * t + n - j * t) (drop (j * t) work)) / 1) (take (j * t + n - j * t) (drop (j * t) work)) 0
-          → x ≡ least_entry (active_reads M j) (column_of M work j)
-      unfolding least_entry
-      least_is x h =
-          let rows : length (take (j * t + n - j * t) (drop (j * t) work)) / 1 ≡ n = let z = part_length in omega arith in
-          h
-          ∙ ap (λ (k : ℕ). least_at 1 k (take (j * t + n - j * t) (drop (j * t) work)) 0) rows
-          ∙ least_parts (take (j * t + n - j * t) (drop (j * t) work)) (column_of M work j) 1 n 0 n (omega arith) some (omega arith) same
-          ∙ ap (λ (k : ℕ). least_at 1 k (column_of M work j) 0) (f ∙ ap used (height_is shape reads places lists ready j l col here p q))
-        where
-          same : (k : ℕ) → k < n → get_or (take (j * t + n - j * t) (drop (j * t) work)) k 0 ≡ get_or (column_of M work j) k 0
-          same k v =
-              let z = column_sizes shape reads places lists ready j t l e in
-              let y : n ≤ t = subst (λ (a : ℕ). a ≤ t) (sym (f ∙ ap used (q ∙ ap (λ (x : Column). x.count) here))) z.fits in
-              get_or-take (j * t + n - j * t) (drop (j * t) work) k 0 (omega arith)
-              ∙ ap (λ (a : ℕ). get_or (drop (j * a) work) k 0) e
-              ∙ sym (get_or-take (entries M) (drop (j * entries M) work) k 0 (omega arith))
+    pub least_is : (x : ℕ) → x ≡ least_at 1 (length (column_entries M work j) / 1) (column_entries M work j) 0
+        → x ≡ least_entry (active_reads M j) (column_of M work j)
+    unfolding least_entry
+    least_is x h =
+        let n : ℕ = used (length (active_reads M j)) in
+        let rows : length (column_entries M work j) / 1 ≡ n = let z = in_use in omega arith in
+        h
+        ∙ ap (λ (k : ℕ). least_at 1 k (column_entries M work j) 0) rows
+        ∙ least_parts (column_entries M work j) (column_of M work j) 1 n 0 n (omega arith) (pow_pos (length (active_reads M j) - 1)) (omega arith)
+        (λ k v. get_or-take n (column_of M work j) k 0 v)

@@ -12,6 +12,7 @@ ghost use Rattle.solve.specs.Outcomes.{result_of};
 
 use layout::{Column, Listed, Place, Placed, Reads};
 use refusal::Refusal;
+use sides::Table;
 
 // The checks 10 and 11, then the table, the answer and its cost. `t` is T.
 fn sized(
@@ -45,7 +46,8 @@ fn sized(
         places: placed.places,
         lists,
     };
-    let cost = written::write_answer(&listed, t, heterozygous, work, scratch, out);
+    let table = Table { listed, t, work };
+    let cost = written::write_answer(&table, heterozygous, scratch, out);
     Ok(cost)
 }
 

@@ -62,16 +62,15 @@ fn column_by_rule(
 {
     let j = at.j;
     let t = at.t;
-    let list = &listed.lists[j];
-    let p = usize::from(list.count);
-    let s = cells::prepare(&listed.placed(), &list.reads, p, j, w, turn);
+    let list = listed.active_reads(j);
+    let s = cells::prepare(&listed.placed(), list, j, w, turn);
     take_over(listed.lists, j, t, s, work, taken);
     let from = j * t;
     let to = from + t;
     let column = column::Column {
         w,
         turn,
-        p,
+        p: list.len(),
         taken,
         heterozygous: at.heterozygous,
     };

@@ -1,4 +1,4 @@
--- What the filled table gives: the least cost, and our sides.
+-- What a filled table gives: the least cost, and our sides.
 use Prim.Native.Nat.{ℕ}
 use mathlib.Core.List.{List}
 use mathlib.Core.Path.{◌≡◌, ◌∙◌}
@@ -9,13 +9,17 @@ use Rattle.meaning.proofs.Modes.{general_fair}
 use Rattle.layout.specs.declared.reads.Reads.{Reads}
 use Rattle.layout.specs.Matrices.{matrix_of}
 use Rattle.layout.proofs.Laws.{lawful_placed}
+use Rattle.sides.specs.declared.Table.{Table}
 use Rattle.sides.specs.Ways.{table_least, table_division}
+use Rattle.written.specs.Output.{RightColumns}
 use Rattle.written.proofs.Answered.{cost_is, sides_are}
-use Rattle.verdict.specs.Stages.{Filled}
 
-module _ (r : Reads) (t : ℕ) (work : List ℕ) (h : Filled r t work) where
-  pub least-cost : (x : ℕ) → x ≡ table_least (matrix_of r) work → x ≡ least_cost charge (matrix_of r)
-  least-cost x e = e ∙ cost_is general general_fair (matrix_of r) (lawful_placed r.shape r.bytes.now r.lawful) r.lawful.some-column work h.right
+module _ (table : Table) (right : RightColumns charge (matrix_of table.listed.reads) table.work.now) where
+  abbrev r : Reads
+  r = table.listed.reads
 
-  pub our_sides : (sides : List ℕ) → sides ≡ sides_of (matrix_of r) (table_division (matrix_of r) work) → sides ≡ sides_of (matrix_of r) (best charge (matrix_of r))
-  our_sides sides e = e ∙ sides_are general general_fair (matrix_of r) (lawful_placed r.shape r.bytes.now r.lawful) work h.right
+  pub least-cost : (x : ℕ) → x ≡ table_least (matrix_of r) table.work.now → x ≡ least_cost charge (matrix_of r)
+  least-cost x e = e ∙ cost_is general general_fair (matrix_of r) (lawful_placed r.shape r.bytes.now r.lawful) r.lawful.some-column table.work.now right
+
+  pub our_sides : (sides : List ℕ) → sides ≡ sides_of (matrix_of r) (table_division (matrix_of r) table.work.now) → sides ≡ sides_of (matrix_of r) (best charge (matrix_of r))
+  our_sides sides e = e ∙ sides_are general general_fair (matrix_of r) (lawful_placed r.shape r.bytes.now r.lawful) table.work.now right

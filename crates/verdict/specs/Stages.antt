@@ -1,18 +1,7 @@
--- How far a judging has come: what is there to judge by, and which verdicts do not apply.
-use Rattle.std.specs.Prelude.{ℕ, ◌*◌, ◌≤◌, ◌≡◌, false, List, length}
+-- How far a judging has come: which verdicts do not apply.
+use Rattle.std.specs.Prelude.{ℕ, ◌≡◌, false, List}
 use Rattle.meaning.specs.Block.{Matrix}
-use Rattle.meaning.specs.Active.{entries}
-use Rattle.meaning.specs.Charge.{charge}
 use Rattle.meaning.specs.Judge.{malformed, other_counts, unknown_mark, false_dash, wrong_cost, not_least}
-use Rattle.layout.specs.declared.reads.Reads.{Reads}
-use Rattle.layout.specs.Matrices.{matrix_of}
-use Rattle.written.specs.Output.{RightColumns}
-
--- the reads' T, and their table in the work room
-pub record Filled (r : Reads) (t : ℕ) (work : List ℕ) : Type 0 where
-  pub entries_are : t ≡ entries (matrix_of r)
-  pub room : r.shape.m * t ≤ length work
-  pub right : RightColumns charge (matrix_of r) work
 
 -- none of 50 to 52
 pub record Marked (M : Matrix) (a : List ℕ) : Type 0 where

@@ -6,11 +6,12 @@ ghost use Rattle.meaning.specs.Judge.{other_answer, verdict};
 ghost use Rattle.meaning.specs.Charge.{charge, best};
 ghost use Rattle.meaning.specs.Answer.{sides_of};
 ghost use Rattle.layout.specs.Matrices.{matrix_of};
+ghost use Rattle.written.specs.Output.{RightColumns};
 ghost use Rattle.stated.specs.Stated.{Sized};
 ghost use Rattle.verdict.specs.Verdicts.{verdict_number, verdict_second, verdict_numbers};
-ghost use Rattle.verdict.specs.Stages.{Filled, Marked};
+ghost use Rattle.verdict.specs.Stages.{Marked};
 
-use layout::Listed;
+use sides::Table;
 use stated::Stated;
 
 // The verdicts 50 to 57, 55 with the least cost.
@@ -32,14 +33,14 @@ impl Verdict {
         ensures { result ≡ verdict_number self }
     {
         match self {
-            Verdict::Malformed => 50,
-            Verdict::OtherCounts => 51,
-            Verdict::UnknownMark => 52,
-            Verdict::FalseDash => 53,
-            Verdict::WrongCost => 54,
-            Verdict::NotLeast(_) => 55,
-            Verdict::OtherAnswer => 56,
-            Verdict::Ours => 57,
+            Self::Malformed => 50,
+            Self::OtherCounts => 51,
+            Self::UnknownMark => 52,
+            Self::FalseDash => 53,
+            Self::WrongCost => 54,
+            Self::NotLeast(_) => 55,
+            Self::OtherAnswer => 56,
+            Self::Ours => 57,
         }
     }
 
@@ -48,7 +49,7 @@ impl Verdict {
         ensures { result ≡ verdict_second self }
     {
         match self {
-            Verdict::NotLeast(least) => least,
+            Self::NotLeast(least) => least,
             _ => 0,
         }
     }
@@ -67,22 +68,15 @@ fn other_answer(stated: &Stated, ours: &[u8]) -> bool
 }
 
 // 53 to 57, of an answer of our size with known marks. Its sides are tallied once for all that follows. `sides` is room for ours.
-fn weighed(
-    listed: &Listed,
-    t: usize,
-    work: &[u32],
-    tally: &mut [u32],
-    answer: &[u8],
-    sides: &mut [u8],
-) -> Verdict
-    requires filled { Filled listed.now.reads t work.now }
-    requires sized { Sized answer.now listed.now.reads.shape.m listed.now.reads.shape.n × Marked (matrix_of listed.now.reads) answer.now }
-    requires m_in_bounds { (4 * listed.now.reads.shape.m ≤ length tally.old) × (listed.now.reads.shape.n ≡ length sides.old) }
-    ensures { verdict_numbers result ≡ verdict (matrix_of listed.now.reads) answer.now }
+fn weighed(table: &Table, tally: &mut [u32], answer: &[u8], sides: &mut [u8]) -> Verdict
+    requires right { RightColumns charge (matrix_of table.now.listed.reads) table.now.work.now }
+    requires sized { Sized answer.now table.now.listed.reads.shape.m table.now.listed.reads.shape.n × Marked (matrix_of table.now.listed.reads) answer.now }
+    requires m_in_bounds { (4 * table.now.listed.reads.shape.m ≤ length tally.old) × (table.now.listed.reads.shape.n ≡ length sides.old) }
+    ensures { verdict_numbers result ≡ verdict (matrix_of table.now.listed.reads) answer.now }
 {
-    let reads = listed.reads;
+    let reads = table.listed.reads;
     let e = 17 + reads.shape.n;
-    tally::tally(&listed.placed(), &answer[17..e], tally);
+    tally::tally(&table.listed.placed(), &answer[17..e], tally);
     let stated = Stated {
         reads,
         tally,
@@ -94,11 +88,11 @@ fn weighed(
     if stated.wrong_cost() {
         return Verdict::WrongCost;
     }
-    let least = sides::least_last(listed, t, work);
+    let least = table.least_last();
     if (least as usize) < layout::long_at(answer, 5) {
         return Verdict::NotLeast(least);
     }
-    sides::write_sides(listed, t, work, sides);
+    table.write_sides(sides);
     if other_answer(&stated, sides) {
         return Verdict::OtherAnswer;
     }
@@ -106,19 +100,12 @@ fn weighed(
 }
 
 // The first verdict that applies, for reads whose table is filled. `tally` and `sides` are room to work in.
-pub fn judged(
-    listed: &Listed,
-    t: usize,
-    work: &[u32],
-    tally: &mut [u32],
-    answer: &[u8],
-    sides: &mut [u8],
-) -> Verdict
-    requires filled { Filled listed.now.reads t work.now }
-    requires m_in_bounds { (4 * listed.now.reads.shape.m ≤ length tally.old) × (listed.now.reads.shape.n ≡ length sides.old) }
-    ensures { verdict_numbers result ≡ verdict (matrix_of listed.now.reads) answer.now }
+pub fn judged(table: &Table, tally: &mut [u32], answer: &[u8], sides: &mut [u8]) -> Verdict
+    requires right { RightColumns charge (matrix_of table.now.listed.reads) table.now.work.now }
+    requires m_in_bounds { (4 * table.now.listed.reads.shape.m ≤ length tally.old) × (table.now.listed.reads.shape.n ≡ length sides.old) }
+    ensures { verdict_numbers result ≡ verdict (matrix_of table.now.listed.reads) answer.now }
 {
-    let shape = listed.reads.shape;
+    let shape = table.listed.reads.shape;
     if stated::malformed(answer) {
         return Verdict::Malformed;
     }
@@ -128,5 +115,5 @@ pub fn judged(
     if stated::unknown_mark(shape, answer) {
         return Verdict::UnknownMark;
     }
-    weighed(listed, t, work, tally, answer, sides)
+    weighed(table, tally, answer, sides)
 }

@@ -2,7 +2,6 @@
 #![tactic(auto)]
 
 ghost use Rattle.std.specs.Prelude.{◌≡◌, ◌+◌, ◌*◌, ◌≤◌, length};
-ghost use Rattle.meaning.specs.Active.{entries};
 ghost use Rattle.meaning.specs.Charge.{least_cost};
 ghost use Rattle.meaning.specs.Letters.{charge_in, mode_of};
 ghost use Rattle.meaning.specs.Answer.{answer};
@@ -11,7 +10,8 @@ ghost use Rattle.layout.specs.Matrices.{matrix_of};
 ghost use Rattle.layout.specs.Lists.{Thin};
 ghost use Rattle.written.specs.Output.{division_in, flips_of, with_letters, RightColumns};
 
-use layout::{Listed, Placed};
+use layout::Placed;
+use sides::Table;
 
 // The letters of both haplotypes, behind the sides that stand in the output; and the number of flips. The tally is room to work in.
 fn write_letters(placed: &Placed, heterozygous: bool, tally: &mut [u32], out: &mut [u8]) -> u32
@@ -38,27 +38,19 @@ fn write_letters(placed: &Placed, heterozygous: bool, tally: &mut [u32], out: &m
 }
 
 // The answer block of a table that is filled, and its cost.
-pub fn write_answer(
-    listed: &Listed,
-    t: usize,
-    heterozygous: bool,
-    work: &[u32],
-    scratch: &mut [u32],
-    out: &mut [u8],
-) -> u32
-    requires t_value { (t ≡ entries (matrix_of listed.now.reads))
-        × RightColumns (charge_in (mode_of heterozygous)) (matrix_of listed.now.reads) work.now }
-    requires t_in_bounds { (listed.now.reads.shape.m * t ≤ length work.now) × (4 * listed.now.reads.shape.m ≤ length scratch.old) }
-    requires m_in_bounds { 17 + listed.now.reads.shape.n + 2 * listed.now.reads.shape.m ≤ length out.old }
-    ensures value { result ≡ least_cost (charge_in (mode_of heterozygous)) (matrix_of listed.now.reads) }
-    ensures out_after { out.new ≡ over (answer (mode_of heterozygous) (matrix_of listed.now.reads)) out.old }
+pub fn write_answer(table: &Table, heterozygous: bool, scratch: &mut [u32], out: &mut [u8]) -> u32
+    requires right { RightColumns (charge_in (mode_of heterozygous)) (matrix_of table.now.listed.reads) table.now.work.now }
+    requires tally_room { 4 * table.now.listed.reads.shape.m ≤ length scratch.old }
+    requires m_in_bounds { 17 + table.now.listed.reads.shape.n + 2 * table.now.listed.reads.shape.m ≤ length out.old }
+    ensures value { result ≡ least_cost (charge_in (mode_of heterozygous)) (matrix_of table.now.listed.reads) }
+    ensures out_after { out.new ≡ over (answer (mode_of heterozygous) (matrix_of table.now.listed.reads)) out.old }
 {
-    let shape = listed.reads.shape;
+    let shape = table.listed.reads.shape;
     let e = 17 + shape.n;
-    sides::write_sides(listed, t, work, &mut out[17..e]);
+    table.write_sides(&mut out[17..e]);
     let f = 4 * shape.m;
-    let flips = write_letters(&listed.placed(), heterozygous, &mut scratch[..f], out);
-    let cost = sides::least_last(listed, t, work);
+    let flips = write_letters(&table.listed.placed(), heterozygous, &mut scratch[..f], out);
+    let cost = table.least_last();
     answer::put_head(out, cost, flips, shape.n, shape.m);
     cost
 }

@@ -1,10 +1,10 @@
+use mathlib.Core.Path.{◌∙◌}
 use native.Mathlib.Omega.{arith}
-use lib.ListN.{length-set}
-use Rattle.answer.proofs.Laws.{word-laid}
+use Rattle.meaning.specs.Numbers.{bytes_of}
+use Rattle.answer.proofs.Laws.{part_laid, word_bytes}
 use Rattle.answer.proofs.put_word.Goals as goal
 
-pub bounds-out-at-2 : goal.bounds-out-at-2
-bounds-out-at-2 c = simp length-set (omega arith)
-
 pub returns : goal.returns
-returns c = word-laid c.args.out.now c.args.at c.args.x c.requires
+unfolding bytes_of
+returns c =
+    part_laid c.args.out.now c.args.at _ _ _ (c.copy_from_slice.ensures.after ∙ c.to_be_bytes.ensures ∙ word_bytes c.args.x) (omega arith)

@@ -5,7 +5,7 @@ use lib.Dec.{ltb}
 use mir.Val.{bool_byte}
 use mathlib.Core.Bool.{Bool}
 use lib.Pow.{pow_pos}
-use lib.ListN.{length-set}
+use lib.ListN.{length, length-set}
 use Rattle.meaning.specs.Numbers.{bit}
 use Rattle.layout.specs.Places.{first_at}
 use Rattle.fold.specs.Turn.{starts_before, shared_to}
@@ -86,12 +86,12 @@ overflow_sub-turn c = omega (arith, c.entries.ensures, pow_pos (c.loop-i.seen - 
 pub returns : goal.returns
 returns c =
     let l = c.loop-i in
-    let e : l.i ≡ c.args.p = omega arith in
+    let e : l.i ≡ length c.args.list.now = omega arith in
     let shares = starts_before (first_at c.args.placed.now.places.now) c.args.list.now c.args.j in
-    let m : Masks shares l.turn l.seen l.head c.args.p = rw e at l.invariant.2 in
+    let m : Masks shares l.turn l.seen l.head (length c.args.list.now) = rw e at l.invariant.2 in
     record {
       value = m.count;
       by_index = λ i k. l.invariant.1.each i (omega arith);
       light_pairs = λ i k. l.invariant.1.light i (omega arith);
-      by_index_2 = masks_all _ c.args.p l.turn l.seen l.head _ m (ap (λ (n : ℕ). n - 1) c.entries.ensures);
+      by_index_2 = masks_all _ (length c.args.list.now) l.turn l.seen l.head _ m (ap (λ (n : ℕ). n - 1) c.entries.ensures);
     }

@@ -1,7 +1,7 @@
 use native.Mathlib.Omega.{arith}
 use Prim.Native.Nat.{◌*◌}
 use mathlib.Core.Path.{sym}
-use native.Mathlib.Nat.{le_trans, le_of_eq}
+use native.Mathlib.Nat.{le_of_eq}
 use lib.Seq.{length-take-le}
 use Rattle.meaning.specs.Charge.{charge}
 use Rattle.layout.specs.Matrices.{matrix_of}
@@ -34,11 +34,7 @@ judged-v-requires c =
     let tally_room = length-take-le (4 * r.shape.m) f.new.taken (omega (arith, c.requires.n_in_bounds.1, f.auto.taken)) in
     let sides_room = length-take-le r.shape.n c.args.sides.now c.requires.n_in_bounds.2 in
     record {
-      filled = record {
-        entries_are = c.requires.thin_columns.entries_are;
-        room = le_trans c.if-work-need.false (le_of_eq (sym f.auto.work));
-        right = columns-right charge (matrix_of r) c.args.work.now _ f.ensures.work_after;
-      };
+      right = columns-right charge (matrix_of r) c.args.work.now _ f.ensures.work_after;
       m_in_bounds = (le_of_eq (sym tally_room), sym sides_room);
     }
 

@@ -35,8 +35,8 @@ pub write_answer-cost-requires : goal.write_answer-cost-requires
 write_answer-cost-requires c =
     let f = c.tabled in
     record {
-      t_value = (c.requires.thin_columns.entries_are, columns-right (charge_in (mode_of c.args.heterozygous)) (matrix_of c.args.placed.now.reads) c.args.work.now _ f.ensures.work_after);
-      t_in_bounds = (le_trans c.if-work-need.false (le_of_eq (sym f.auto.work)), le_trans c.requires.n_in_bounds.1 (le_of_eq (sym f.auto.taken)));
+      right = columns-right (charge_in (mode_of c.args.heterozygous)) (matrix_of c.args.placed.now.reads) c.args.work.now _ f.ensures.work_after;
+      tally_room = le_trans c.requires.n_in_bounds.1 (le_of_eq (sym f.auto.taken));
       m_in_bounds = c.if-out-size.false;
     }
 

@@ -2,19 +2,19 @@ use native.Mathlib.Omega.{arith}
 use Prim.Native.Nat.{ℕ, ◌*◌, ◌≤◌, ◌<◌}
 use mathlib.Core.Path.{◌≡◌, ap, ◌∙◌}
 use mathlib.Core.List.{List}
-use lib.ListN.{length, get_or}
+use lib.ListN.{length}
 use Rattle.meaning.specs.Letters.{charge_in, mode_of}
 use Rattle.meaning.specs.Call.{laid}
 use Rattle.layout.specs.Reads.{matrix_in}
 use Rattle.layout.specs.Matrices.{matrix_of}
 use Rattle.layout.specs.declared.reads.Listed.{Listed}
 use Rattle.layout.specs.Places.{first_at}
-use Rattle.layout.specs.Lists.{no_reads}
 use Rattle.fold.specs.Turn.{starts_before, shared_to}
 use Rattle.meaning.specs.Active.{entries}
+use Rattle.meaning.specs.Closing.{active_reads}
 use Rattle.layout.specs.declared.reads.Reads.{Reads}
 use Rattle.table.specs.Taken.{HandedOn, shared_before, TakenBefore}
-use Rattle.table.proofs.Sizes.{ColumnSizes, column_sizes, column_at, column_read}
+use Rattle.table.proofs.Sizes.{ColumnSizes, column_sizes}
 use Rattle.table.proofs.Handed.{handing, handed}
 use Rattle.table.proofs.Columns.{cells-laid, shared_are, fill_fits, pass_laid}
 use Rattle.table.proofs.Filled.{before_fits, before_over}
@@ -25,15 +25,11 @@ module _ (l : Listed) {j t : ℕ} (h : (j < l.reads.shape.m) × (t ≡ entries (
   sizes : ColumnSizes l.reads.shape l.reads.bytes.now l.places.now l.lists.now l.ready j t
   sizes = column_sizes _ _ _ _ l.ready j t h.0 h.1
 
-  -- what is read of it
-  column : column_at l.lists.now j ≡ get_or l.lists.now j no_reads
-  column = column_read l.lists.now j (omega (arith, h.0, l.ready.piled.room))
-
-  module _ {p s : ℕ} (q : p ≡ (column_at l.lists.now j).count)
-      (e : s ≡ shared_to (starts_before (first_at l.places.now) (column_at l.lists.now j).reads j) p) where
+  module _ {s : ℕ} {list : List ℕ} (here : list ≡ active_reads (matrix_of l.reads) j)
+      (e : s ≡ shared_to (starts_before (first_at l.places.now) list j) (length list)) where
     -- how many of its reads are shared
     shared : s ≡ length (shared_before (matrix_of l.reads) j)
-    shared = shared_are _ _ _ _ l.ready j h.0 _ column p q s e
+    shared = shared_are _ _ _ _ l.ready j h.0 _ here s e
 
     -- what it takes over
     taken_over : (work taken : List ℕ) → HandedOn l.lists.now j t s work taken → TakenBefore (matrix_of l.reads) j work taken
@@ -41,12 +37,12 @@ module _ (l : Listed) {j t : ℕ} (h : (j < l.reads.shape.m) × (t ≡ entries (
 
 pub prepare-s-requires : goal.prepare-s-requires
 prepare-s-requires c =
-    cells-laid _ _ _ _ c.args.listed.now.ready c.args.at.j c.requires.j_lt_m.0 _ (column c.args.listed.now c.requires.j_lt_m) c.from-p.result c.from-p.ensures
+    cells-laid _ _ _ _ c.args.listed.now.ready c.args.at.j c.requires.j_lt_m.0 _ c.active_reads-list.ensures
     c.placed.result (ap (λ (r : Reads). r.shape) c.placed.ensures.0) (ap (λ (r : Reads). r.bytes.now) c.placed.ensures.0)
 
 pub take_over-requires : goal.take_over-requires
 take_over-requires c =
-    let shares = shared c.args.listed.now c.requires.j_lt_m c.from-p.ensures (rw c.placed.ensures.1 at c.prepare-s.ensures.value) in
+    let shares = shared c.args.listed.now c.requires.j_lt_m c.active_reads-list.ensures (rw c.placed.ensures.1 at c.prepare-s.ensures.value) in
     handing _ _ _ _ c.args.listed.now.ready c.args.at.j c.args.at.t c.prepare-s.result c.requires.j_lt_m.0 c.requires.j_lt_m.1 shares c.args.work.now c.args.taken.now
     c.requires.t_in_bounds.0 c.requires.t_in_bounds.1
 
@@ -64,25 +60,23 @@ slice_bounds-fill-end c = omega (arith, sizes c.args.listed.now c.requires.j_lt_
 
 pub fill-requires : goal.fill-requires
 fill-requires c =
-    let taken = taken_over c.args.listed.now c.requires.j_lt_m c.from-p.ensures (rw c.placed.ensures.1 at c.prepare-s.ensures.value) _ _ c.take_over.ensures in
-    let w = c.from-p in
+    let taken = taken_over c.args.listed.now c.requires.j_lt_m c.active_reads-list.ensures (rw c.placed.ensures.1 at c.prepare-s.ensures.value) _ _ c.take_over.ensures in
     let g = c.prepare-s in
     let k : length c.take_over.new.taken ≡ length c.args.taken.now = c.take_over.auto.taken in
     let r : c.args.at.t ≤ length c.args.taken.now = c.requires.t_in_bounds.0 in
-    let turned = λ (i : ℕ) (k : i < c.from-p.result). rw c.placed.ensures.1 at (c.prepare-s.ensures.by_index_2 i k) in
-    let fits = fill_fits _ _ _ _ c.args.listed.now.ready c.args.at.j c.requires.j_lt_m.0 _ (column c.args.listed.now c.requires.j_lt_m) w.result w.ensures
+    let turned = λ (i : ℕ) (k : i < length c.active_reads-list.result.now). rw c.placed.ensures.1 at (c.prepare-s.ensures.by_index_2 i k) in
+    let fits = fill_fits _ _ _ _ c.args.listed.now.ready c.args.at.j c.requires.j_lt_m.0 _ c.active_reads-list.ensures
     g.new.turn turned c.args.at.t c.requires.j_lt_m.1 c.take_over.new.taken c.args.work.now c.requires.t_in_bounds.1
     (before_fits _ _ _ _ c.args.listed.now.ready c.args.at.j c.args.at.t c.requires.j_lt_m.0 c.requires.j_lt_m.1 c.args.work.now c.take_over.new.taken (omega arith) taken c.requires.k_bound) in
     record { room = fits.0; p_in_bounds = fits.1 }
 
 pub returns : goal.returns
 returns c =
-    let taken = taken_over c.args.listed.now c.requires.j_lt_m c.from-p.ensures (rw c.placed.ensures.1 at c.prepare-s.ensures.value) _ _ c.take_over.ensures in
-    let w = c.from-p in
+    let taken = taken_over c.args.listed.now c.requires.j_lt_m c.active_reads-list.ensures (rw c.placed.ensures.1 at c.prepare-s.ensures.value) _ _ c.take_over.ensures in
     let g = c.prepare-s in
-    let turned = λ (i : ℕ) (k : i < c.from-p.result). rw c.placed.ensures.1 at (c.prepare-s.ensures.by_index_2 i k) in
-    let pairs = λ (i : ℕ) (k : i < c.from-p.result). rw c.placed.ensures.0 at (c.prepare-s.ensures.by_index i k) in
-    pass_laid _ _ _ _ c.args.listed.now.ready c.args.at.j c.requires.j_lt_m.0 _ (column c.args.listed.now c.requires.j_lt_m) w.result w.ensures
+    let turned = λ (i : ℕ) (k : i < length c.active_reads-list.result.now). rw c.placed.ensures.1 at (c.prepare-s.ensures.by_index_2 i k) in
+    let pairs = λ (i : ℕ) (k : i < length c.active_reads-list.result.now). rw c.placed.ensures.0 at (c.prepare-s.ensures.by_index i k) in
+    pass_laid _ _ _ _ c.args.listed.now.ready c.args.at.j c.requires.j_lt_m.0 _ c.active_reads-list.ensures
     (mode_of c.args.at.heterozygous).charged c.args.at.t c.requires.j_lt_m.1 g.new.w g.new.turn
     c.take_over.new.taken c.args.work.now c.fill.new.part c.requires.t_in_bounds.1 pairs turned c.fill.ensures
     ∙ ap (λ (x : List ℕ). laid (c.args.at.j * c.args.at.t) x c.args.work.now)

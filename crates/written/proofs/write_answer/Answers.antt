@@ -14,11 +14,11 @@ use Rattle.written.proofs.Answered.{cost_is, sides_are, sides-laid, sides-size, 
 use Rattle.written.proofs.write_answer.Goals as goal
 
 pub write_letters-flips-requires-clause-thin : goal.write_letters-flips-requires-clause-thin
-write_letters-flips-requires-clause-thin c = rw c.placed.ensures.0 (ready-thin _ _ _ _ c.args.listed.now.ready)
+write_letters-flips-requires-clause-thin c = rw c.placed.ensures.0 (ready-thin _ _ _ _ c.args.table.now.listed.ready)
 
 pub returns : goal.returns
 returns c =
-    let r = c.args.listed.now.reads in
+    let r = c.args.table.now.listed.reads in
     let n = r.shape.n in
     let mode = mode_of c.args.heterozygous in
     let M = matrix_of r in
@@ -29,8 +29,8 @@ returns c =
     let room : 17 + n ≤ length out = omega (arith, c.requires.m_in_bounds) in
     let size = sides-size n written out c.write_sides.auto.sides room in
     -- the least entry is the cost, and the way back gives the reported sides
-    let cost : c.least_last-cost.result ≡ least_cost (charge_in mode) M = c.least_last-cost.ensures ∙ cost_is _ fair _ placed r.lawful.some-column c.args.work.now c.requires.t_value.1 in
-    let sides : written ≡ sides_of M (best (charge_in mode) M) = c.write_sides.ensures ∙ sides_are _ fair M placed c.args.work.now c.requires.t_value.1 in
+    let cost : c.least_last-cost.result ≡ least_cost (charge_in mode) M = c.least_last-cost.ensures ∙ cost_is _ fair _ placed r.lawful.some-column c.args.table.now.work.now c.requires.right in
+    let sides : written ≡ sides_of M (best (charge_in mode) M) = c.write_sides.ensures ∙ sides_are _ fair M placed c.args.table.now.work.now c.requires.right in
     let l = c.write_letters-flips in
     record {
       value = cost;

@@ -1,16 +1,19 @@
 -- How much room a column of so many reads takes, and that the local arrays are room enough.
 use Prim.Native.Nat.{ℕ, ◌≤◌, min}
 use mathlib.Core.Path.{ap}
+use mathlib.Core.List.{List}
 use native.Mathlib.Omega.{arith}
 use lib.ListN.{replicate, length-replicate, get_or-replicate}
 use lib.Pow.{pow_mono}
 use Rattle.meaning.specs.Active.{used}
+use Rattle.layout.specs.declared.runs.Place.{Place}
 use Rattle.layout.specs.declared.runs.Column.{Column}
 use Rattle.layout.specs.declared.shape.Shape.{Shape}
 use Rattle.layout.specs.Places.{nowhere}
 use Rattle.layout.specs.Lists.{no_reads, Unlisted}
 use Rattle.solve.specs.Rooms.{Rooms}
 use Rattle.rooms.specs.Unlisted.{unlisted}
+use Rattle.rooms.specs.New.{New}
 
 few_reads_room : (n : ℕ) → n ≤ 7 → used (min n 12) ≤ 128
 few_reads_room n l = pow_mono {j = 7} (omega arith)
@@ -43,3 +46,8 @@ large_rooms s =
       taken_room = any_reads_room s.n;
       tally_room = omega (arith, s.few_columns);
     }
+
+-- new room of these sizes is room enough where they are
+pub rooms_of : (reads columns size : ℕ) {s : Shape} {p : List Place} {l : List Column} {t : List ℕ} → New reads columns size p l t
+    → Rooms s (replicate reads nowhere) (replicate columns unlisted) (replicate size 0) → Rooms s p l t
+rooms_of reads columns size new r = rw (new.0, new.1, new.2) r

@@ -4,14 +4,12 @@ use mathlib.Core.Path.{◌≡◌, sym, ap, ◌∙◌}
 use mathlib.Core.List.{List}
 use Rattle.std.specs.Prelude.{Err}
 use native.Mathlib.Nat.{le_refl}
-use native.Mathlib.Omega.{arith}
 use lib.ListN.{length}
 use Rattle.meaning.specs.Block.{Matrix}
-use Rattle.meaning.specs.Active.{active_count}
 use Rattle.meaning.specs.Charge.{charge}
 use Rattle.meaning.specs.Table.{table}
 use Rattle.meaning.specs.Answer.{answer_size}
-use Rattle.meaning.specs.Refusals.{Numbers, crowded, matrix_refusal}
+use Rattle.meaning.specs.Refusals.{Numbers, matrix_refusal}
 use Rattle.meaning.specs.Call.{over}
 use Rattle.meaning.specs.Judge.{verdict, judges, rejects, judging_on}
 use Rattle.meaning.proofs.Judging.{judging_on-accepts, judging_on-refuses}
@@ -20,7 +18,7 @@ use Rattle.refusal.specs.Numbers.{refusal_number, refusal_second, refusal_number
 use Rattle.refusal.proofs.Told.{refusal_above}
 use Rattle.ready.specs.Piling.{ThinColumns}
 use Rattle.verdict.specs.Verdicts.{judged_of}
-use Rattle.ready.proofs.Refused.{refused_number, refused_9, refused_10, all_pass}
+use Rattle.ready.proofs.Refused.{refused_number, all_pass}
 
 module _ (M : Matrix) (a work : List ℕ) where
   -- a refusal is the judging's
@@ -29,17 +27,11 @@ module _ (M : Matrix) (a work : List ℕ) where
   unfolding rejects
   refusal-judging n s e l = sym (judging_on-refuses M a work (refused_number _ n s e l) ∙ ap (λ (x : Numbers). rejects x work) e)
 
-  -- 9
-  pub crowded-judging : (e : Refusal) → crowded (active_count M) 0 M.columns ≡ refusal_numbers e → judged_of (Err e) work ≡ judging_on M a work
-  crowded-judging e h =
-      let n = refusal_above e in
-      refusal-judging (refusal_number e) (refusal_second e) (refused_9 M (length work) (answer_size M) (refusal_numbers e) h n) n
+  -- 9 or 10
+  pub refused-judging : (e : Refusal) → matrix_refusal M (length work) (answer_size M) ≡ refusal_numbers e → judged_of (Err e) work ≡ judging_on M a work
+  refused-judging e h = refusal-judging (refusal_number e) (refusal_second e) h (refusal_above e)
 
   module _ (t : ℕ) (h : ThinColumns M t) where
-    -- 10
-    pub work-judging : length work < M.columns * t → record { number = 10; second = M.columns * t; work = work } ≡ judging_on M a work
-    work-judging l = refusal-judging 10 (M.columns * t) (refused_10 M (length work) (answer_size M) t h l) (omega arith)
-
     -- 50 to 57
     pub verdict-judging : (work' : List ℕ) (v : Numbers) → M.columns * t ≤ length work → v ≡ verdict M a → work' ≡ over (table charge M) work
         → record { number = v.number; second = v.second; work = work' } ≡ judging_on M a work

@@ -1,7 +1,7 @@
 // Judging: the refusals 9 and 10 of reads, then, with their table filled, the verdict on a builder's answer.
 #![tactic(auto)]
 
-ghost use Rattle.std.specs.Prelude.{◌≡◌, ◌*◌, ◌≤◌, min, length};
+ghost use Rattle.std.specs.Prelude.{◌≡◌, ◌*◌, ◌≤◌, min, length, Ok};
 ghost use Rattle.meaning.specs.Active.{used};
 ghost use Rattle.meaning.specs.Judge.{judging_on};
 ghost use Rattle.layout.specs.Matrices.{matrix_of};
@@ -14,8 +14,8 @@ use refusal::Refusal;
 use sides::Table;
 use verdict::Verdict;
 
-// The check 10, then the table and the verdict. `t` is T.
-fn sized(
+// The table, and the verdict by it. `t` is T.
+fn judged(
     placed: &Placed,
     lists: &mut [Column],
     t: usize,
@@ -23,18 +23,15 @@ fn sized(
     work: &mut [u32],
     answer: &[u8],
     sides: &mut [u8],
-) -> Result<Verdict, Refusal>
+) -> Verdict
     requires lists_room { placed.now.reads.shape.m ≤ length lists.old }
     requires thin_columns { ThinColumns (matrix_of placed.now.reads) t }
     requires n_in_bounds { (used (min placed.now.reads.shape.n 12) ≤ length scratch.old)
-        × (4 * placed.now.reads.shape.m ≤ length scratch.old) × (placed.now.reads.shape.n ≤ length sides.old) }
-    ensures { judged_of result work.new ≡ judging_on (matrix_of placed.now.reads) answer.now work.old }
+        × (4 * placed.now.reads.shape.m ≤ length scratch.old) × (placed.now.reads.shape.n ≤ length sides.old)
+        × (placed.now.reads.shape.m * t ≤ length work.old) }
+    ensures { judged_of (Ok result) work.new ≡ judging_on (matrix_of placed.now.reads) answer.now work.old }
 {
     let shape = placed.reads.shape;
-    let need = shape.m * t;
-    if work.len() < need {
-        return Err(Refusal::Work(need as u32));
-    }
     ready::tabled(placed, lists, t, false, scratch, work);
     let listed = Listed {
         reads: placed.reads,
@@ -43,8 +40,7 @@ fn sized(
     };
     let table = Table { listed, t, work };
     let e = 4 * shape.m;
-    let v = verdict::judged(&table, &mut scratch[..e], answer, &mut sides[..shape.n]);
-    Ok(v)
+    verdict::judged(&table, &mut scratch[..e], answer, &mut sides[..shape.n])
 }
 
 // Judges an answer to reads that pass the checks 5 to 8: 9 with the column, 10 with the size needed, or the verdict. The last four runs are
@@ -61,10 +57,11 @@ pub fn judge(
     requires { Rooms reads.now.shape places.old lists.old scratch.old × (reads.now.shape.n ≤ length sides.old) }
     ensures { judged_of result work.new ≡ judging_on (matrix_of reads.now) answer.now work.old }
 {
-    let t = ready::piled(reads, places, lists)?;
+    let t = ready::sized(reads, places, lists, work.len())?;
     let placed = Placed {
         reads: *reads,
         places,
     };
-    sized(&placed, lists, t, scratch, work, answer, sides)
+    let v = judged(&placed, lists, t, scratch, work, answer, sides);
+    Ok(v)
 }

@@ -1,4 +1,4 @@
-// From lawful reads to their table: where each read lies, check 9, each column's list, the table.
+// From lawful reads to their table: where each read lies, the checks 9 and 10, each column's list, the table.
 #![tactic(auto)]
 
 ghost use Rattle.std.specs.Prelude.{◌≡◌, ◌*◌, ◌≤◌, min, length};
@@ -9,13 +9,13 @@ ghost use Rattle.meaning.specs.Call.{over};
 ghost use Rattle.layout.specs.Matrices.{matrix_of};
 ghost use Rattle.layout.specs.Lists.{Unlisted};
 ghost use Rattle.layout.specs.Ready.{Ready};
-ghost use Rattle.ready.specs.Piling.{Piling, ThinColumns, ColumnsFound};
+ghost use Rattle.ready.specs.Piling.{Piling, ThinColumns, ColumnsFound, TableSized};
 
 use layout::{Column, Listed, Place, Placed, Reads};
 use refusal::Refusal;
 
 // Where the reads lie; then check 9, the first column that has more than 12 active reads, or T.
-pub fn piled(reads: &Reads, places: &mut [Place], lists: &mut [Column]) -> Result<usize, Refusal>
+fn piled(reads: &Reads, places: &mut [Place], lists: &mut [Column]) -> Result<usize, Refusal>
     requires n_in_bounds { (reads.now.shape.n ≤ length places.old) × (reads.now.shape.m ≤ length lists.old) }
     requires unlisted { Unlisted lists.old }
     ensures piling { Piling reads.now.shape reads.now.bytes.now places.new lists.new }
@@ -26,6 +26,26 @@ pub fn piled(reads: &Reads, places: &mut [Place], lists: &mut [Column]) -> Resul
     pile::heights(places, shape.n, lists);
     let most = pile::tallest(shape, lists)?;
     Ok(plain::entries(most))
+}
+
+// Where the reads lie; then the checks 9 and 10 with so many entries of work room, or T.
+pub fn sized(
+    reads: &Reads,
+    places: &mut [Place],
+    lists: &mut [Column],
+    entries: usize,
+) -> Result<usize, Refusal>
+    requires n_in_bounds { (reads.now.shape.n ≤ length places.old) × (reads.now.shape.m ≤ length lists.old) }
+    requires unlisted { Unlisted lists.old }
+    ensures piling { Piling reads.now.shape reads.now.bytes.now places.new lists.new }
+    ensures table_sized { TableSized (matrix_of reads.now) entries result }
+{
+    let t = piled(reads, places, lists)?;
+    let need = reads.shape.m * t;
+    if entries < need {
+        return Err(Refusal::Work(need as u32));
+    }
+    Ok(t)
 }
 
 // The columns' lists, and the table of the mode. `t` is T; `taken` is room for what a column takes over.

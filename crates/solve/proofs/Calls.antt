@@ -6,12 +6,12 @@ use Rattle.std.specs.Prelude.{Err}
 use native.Mathlib.Omega.{arith}
 use lib.ListN.{length}
 use Rattle.meaning.specs.Block.{Matrix}
-use Rattle.meaning.specs.Active.{count, active_count}
+use Rattle.meaning.specs.Active.{count}
 use Rattle.meaning.specs.Charge.{least_cost}
 use Rattle.meaning.specs.Letters.{Mode, charge_in}
 use Rattle.meaning.specs.Table.{table}
 use Rattle.meaning.specs.Answer.{answer, answer_size}
-use Rattle.meaning.specs.Refusals.{Numbers, crowded, matrix_refusal}
+use Rattle.meaning.specs.Refusals.{Numbers, matrix_refusal}
 use Rattle.meaning.specs.Call.{over, accepts, refuses, call_on}
 use Rattle.meaning.proofs.Call.{on_accepts, on_refuses}
 use Rattle.refusal.specs.declared.Refusal.{Refusal}
@@ -19,7 +19,7 @@ use Rattle.refusal.specs.Numbers.{refusal_number, refusal_second, refusal_number
 use Rattle.refusal.proofs.Told.{refusal_above}
 use Rattle.ready.specs.Piling.{ThinColumns}
 use Rattle.solve.specs.Outcomes.{result_of}
-use Rattle.ready.proofs.Refused.{refused_number, refused_9, refused_10, refused_11, all_pass}
+use Rattle.ready.proofs.Refused.{refused_number, refused_11, all_pass}
 
 module _ (mode : Mode) (M : Matrix) (work out : List ℕ) where
   -- a refusal is the call's
@@ -28,17 +28,11 @@ module _ (mode : Mode) (M : Matrix) (work out : List ℕ) where
   unfolding refuses
   refusal-call n s e l = sym (on_refuses mode M work out (refused_number _ n s e l) ∙ ap (λ (x : Numbers). refuses x work out) e)
 
-  -- 9
-  pub crowded-call : (e : Refusal) → crowded (active_count M) 0 M.columns ≡ refusal_numbers e → result_of (Err e) work out ≡ call_on mode M work out
-  crowded-call e h =
-      let n = refusal_above e in
-      refusal-call (refusal_number e) (refusal_second e) (refused_9 M (length work) (length out) (refusal_numbers e) h n) n
+  -- 9 or 10
+  pub refused-call : (e : Refusal) → matrix_refusal M (length work) (length out) ≡ refusal_numbers e → result_of (Err e) work out ≡ call_on mode M work out
+  refused-call e h = refusal-call (refusal_number e) (refusal_second e) h (refusal_above e)
 
   module _ (t : ℕ) (h : ThinColumns M t) where
-    -- 10
-    pub work-call : length work < M.columns * t → record { number = 10; second = M.columns * t; work = work; out = out } ≡ call_on mode M work out
-    work-call l = refusal-call 10 (M.columns * t) (refused_10 M (length work) (length out) t h l) (omega arith)
-
     module _ (room : M.columns * t ≤ length work) (n : ℕ) (e : count M ≡ n) where
       size : 17 + n + 2 * M.columns ≡ answer_size M
       unfolding answer_size

@@ -14,8 +14,8 @@ use layout::{Column, Listed, Place, Placed, Reads};
 use refusal::Refusal;
 use sides::Table;
 
-// The checks 10 and 11, then the table, the answer and its cost. `t` is T.
-fn sized(
+// The check 11, then the table, the answer and its cost. `t` is T.
+fn answered(
     placed: &Placed,
     lists: &mut [Column],
     t: usize,
@@ -27,15 +27,11 @@ fn sized(
     requires lists_room { placed.now.reads.shape.m ≤ length lists.old }
     requires thin_columns { ThinColumns (matrix_of placed.now.reads) t }
     requires n_in_bounds { (used (min placed.now.reads.shape.n 12) ≤ length scratch.old)
-        × (4 * placed.now.reads.shape.m ≤ length scratch.old) }
+        × (4 * placed.now.reads.shape.m ≤ length scratch.old) × (placed.now.reads.shape.m * t ≤ length work.old) }
     ensures { result_of result work.new out.new
         ≡ call_on (mode_of heterozygous) (matrix_of placed.now.reads) work.old out.old }
 {
     let shape = placed.reads.shape;
-    let need = shape.m * t;
-    if work.len() < need {
-        return Err(Refusal::Work(need as u32));
-    }
     let size = 17 + shape.n + 2 * shape.m;
     if out.len() < size {
         return Err(Refusal::Output(size as u32));
@@ -66,10 +62,10 @@ pub fn solve(
     ensures { result_of result work.new out.new
         ≡ call_on (mode_of heterozygous) (matrix_of reads.now) work.old out.old }
 {
-    let t = ready::piled(reads, places, lists)?;
+    let t = ready::sized(reads, places, lists, work.len())?;
     let placed = Placed {
         reads: *reads,
         places,
     };
-    sized(&placed, lists, t, heterozygous, scratch, work, out)
+    answered(&placed, lists, t, heterozygous, scratch, work, out)
 }

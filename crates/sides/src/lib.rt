@@ -21,7 +21,7 @@ pub struct Table<'a> {
 }
 
 impl<'a> Table<'a> {
-    // Column j's entries, without those that are always 0.
+    // The entries of column j that stand for divisions: the rest of its T lie behind them.
     fn column_entries(&self, j: usize) -> &[u32]
         requires { j < self.now.listed.reads.shape.m }
         ensures { result.now ≡ column_entries (matrix_of self.now.listed.reads) self.now.work.now j }

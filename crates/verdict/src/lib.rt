@@ -70,7 +70,8 @@ fn other_answer(stated: &Stated, ours: &[u8]) -> bool
 // 53 to 57, of an answer of our size with known marks. Its sides are tallied once for all that follows. `sides` is room for ours.
 fn weighed(table: &Table, tally: &mut [u32], answer: &[u8], sides: &mut [u8]) -> Verdict
     requires right { RightColumns charge (matrix_of table.now.listed.reads) table.now.work.now }
-    requires sized { Sized answer.now table.now.listed.reads.shape.m table.now.listed.reads.shape.n × Marked (matrix_of table.now.listed.reads) answer.now }
+    requires sized { Sized answer.now table.now.listed.reads.shape.m table.now.listed.reads.shape.n
+        × Marked (matrix_of table.now.listed.reads) answer.now }
     requires m_in_bounds { (4 * table.now.listed.reads.shape.m ≤ length tally.old) × (table.now.listed.reads.shape.n ≡ length sides.old) }
     ensures { verdict_numbers result ≡ verdict (matrix_of table.now.listed.reads) answer.now }
 {

@@ -48,7 +48,7 @@ fn answered(
 }
 
 // Solves reads that pass the checks 5 to 8, in the mode of the flag: 9 with the column, 10 or 11 with the size needed, or the cost. The last
-// three runs are room to work in.
+// three runs are room to work in; no struct holds them, since the first two are soon read by all, in `Listed`, while the third is written.
 pub fn solve(
     reads: &Reads,
     heterozygous: bool,

@@ -14,17 +14,25 @@ pub struct Shape {
     ghost few_reads: { n ≤ 1024 },
 }
 
+// The weight of the cell that starts at `at`: the bytes behind its letter, one or two.
+pub fn weight_at(cells: &[u8], size: usize, at: usize) -> u32
+    requires { CellSize size × (at + size ≤ length cells.now) }
+    ensures { (result ≡ big_endian (size - 1) cells.now (at + 1)) × (result ≤ 65535) }
+{
+    let first = u32::from(cells[at + 1]);
+    if size == 2 {
+        return first;
+    }
+    first * 256 + u32::from(cells[at + 2])
+}
+
 impl Shape {
-    // The weight of the cell that starts at `at`: the bytes behind its letter, one or two.
+    // The weight of the cell that starts at `at`.
     pub fn weight_at(self, cells: &[u8], at: usize) -> u32
         requires { at + self.size ≤ length cells.now }
         ensures { (result ≡ big_endian (self.size - 1) cells.now (at + 1)) × (result ≤ 65535) }
     {
-        let first = u32::from(cells[at + 1]);
-        if self.size == 2 {
-            return first;
-        }
-        first * 256 + u32::from(cells[at + 2])
+        weight_at(cells, self.size, at)
     }
 
     // How many cells so many bytes are. Dividing by a known number is fast.

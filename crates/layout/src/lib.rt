@@ -10,7 +10,7 @@ mod shape;
 
 pub use reads::{Listed, Placed, Reads};
 pub use runs::{Column, NO_READS, NOWHERE, Place};
-pub use shape::{Shape, weight_at};
+pub use shape::{Shape, cells_in, weight_at};
 
 // The big-endian number of the two bytes from `at` on.
 #[tactic(auto, using(crate::proofs::Fields::word_is))]

@@ -26,6 +26,14 @@ pub fn weight_at(cells: &[u8], size: usize, at: usize) -> u32
     first * 256 + u32::from(cells[at + 2])
 }
 
+// How many cells so many bytes are. Dividing by a known number is fast.
+pub fn cells_in(bytes: usize, size: usize) -> usize
+    requires { CellSize size }
+    ensures { result ≡ bytes / size }
+{
+    if size == 2 { bytes / 2 } else { bytes / 3 }
+}
+
 impl Shape {
     // The weight of the cell that starts at `at`.
     pub fn weight_at(self, cells: &[u8], at: usize) -> u32
@@ -35,10 +43,10 @@ impl Shape {
         weight_at(cells, self.size, at)
     }
 
-    // How many cells so many bytes are. Dividing by a known number is fast.
+    // How many cells so many bytes are.
     pub fn cells_in(self, bytes: usize) -> usize
         ensures { result ≡ bytes / self.size }
     {
-        if self.size == 2 { bytes / 2 } else { bytes / 3 }
+        cells_in(bytes, self.size)
     }
 }

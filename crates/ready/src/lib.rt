@@ -24,8 +24,10 @@ fn piled(reads: &Reads, places: &mut [Place], lists: &mut [Column]) -> Result<us
     let shape = reads.shape;
     reads::places(reads, places);
     pile::heights(places, shape.n, lists);
-    let most = pile::tallest(shape, lists)?;
-    Ok(plain::entries(most))
+    match pile::tallest(lists, shape.m) {
+        Ok(most) => Ok(plain::entries(most)),
+        Err(j) => Err(Refusal::Crowded(j as u32)),
+    }
 }
 
 // Where the reads lie; then the checks 9 and 10 with so many entries of work room, or T.

@@ -4,6 +4,16 @@
 ghost use Rattle.std.specs.Prelude.{◌≡◌, ℕ, ◌+◌, ◌*◌, ◌/◌, ◌≤◌, ◌<◌, min, length, get_or};
 ghost use Rattle.meaning.specs.Rule.{least_at};
 
+// Each class has its entry of the one row. A loop: the library's method would have the archive ask for `memmove` from outside.
+fn only(row: &[u32], taken: &mut [u32])
+    requires { length row.now ≡ length taken.old }
+    ensures { (f : ℕ) → f < length taken.old → get_or taken.new f 0 ≡ get_or row.now f 0 }
+{
+    for (f, x) in taken.iter_mut().enumerate() {
+        *x = row[f];
+    }
+}
+
 // Each class has the lesser of its entries in two rows.
 fn lesser(a: &[u32], b: &[u32], taken: &mut [u32])
     requires a_len { length a.now ≡ length taken.old }
@@ -34,7 +44,7 @@ pub fn carry(part: &[u32], classes: usize, taken: &mut [u32])
 {
     let kept = &mut taken[..classes];
     if part.len() == classes {
-        kept.copy_from_slice(part);
+        only(part, kept);
         return;
     }
     // the first two rows at once: a copy of the first would have to be read back

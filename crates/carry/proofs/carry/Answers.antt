@@ -1,18 +1,16 @@
 use Rattle.std.proofs.Common.{arith, length-take}
 use Prim.Native.Nat.{ℕ, ◌*◌, ◌/◌, ◌≤◌}
 use mathlib.Core.Path.{◌≡◌, ap, ◌∙◌}
-use mathlib.Core.List.{List}
-use lib.ListN.{length, get_or, take, drop, get_or-append}
+use lib.ListN.{length, take, drop, get_or-append}
 use Rattle.carry.proofs.Laws.{second_fits, carried_first, carried_all, left-two, left_more, left_none}
 use Rattle.carry.proofs.carry.Goals as goal
 
 pub returns-then-part-classes : goal.returns-then-part-classes
 returns-then-part-classes c = λ f l.
-    let same = c.copy_from_slice.ensures.after in
-    let many : length c.copy_from_slice.new.self ≡ length c.args.part.now = ap length same in
-    get_or-append c.copy_from_slice.new.self _ 0 f (omega arith)
-    ∙ carried_all c.args.part.now c.args.classes (length c.args.part.now / c.args.classes) c.args.classes c.copy_from_slice.new.self c.requires.classes_nonzero.0 c.requires.part_nonzero.1
-    (carried_first c.args.part.now c.args.classes c.copy_from_slice.new.self (λ g k. ap (λ (x : List ℕ). get_or x g 0) same))
+    let many : length c.only.new.taken ≡ c.args.classes = omega (arith, length-take {A = ℕ}) in
+    get_or-append c.only.new.taken _ 0 f (omega arith)
+    ∙ carried_all c.args.part.now c.args.classes (length c.args.part.now / c.args.classes) c.args.classes c.only.new.taken c.requires.classes_nonzero.0 c.requires.part_nonzero.1
+    (carried_first c.args.part.now c.args.classes c.only.new.taken (λ g k. c.only.ensures g (omega arith)))
     (omega arith) (omega arith) f l
 
 pub loop-row-init : goal.loop-row-init
